@@ -1,0 +1,1 @@
+//! The logic of rules: formulas of bounded metric temporal logic, in specs/.

@@ -1,0 +1,3 @@
+pub struct Rule {
+    count: u8,
+}
