@@ -16,6 +16,10 @@ module _ {X Y : Type 0} (h : X → Y) where
   map-push [] x = refl
   map-push (y ∷ t) x = ap (λ r. h y ∷ r) (map-push t x)
 
+  pub length-mapped : (t : List X) → length (map h t) ≡ length t
+  length-mapped [] = refl
+  length-mapped (x ∷ t) = ap suc (length-mapped t)
+
   pub getD-mapped : (t : List X) (k : ℕ) (d : X) → getD (map h t) k (h d) ≡ h (getD t k d)
   getD-mapped [] k d = refl
   getD-mapped (x ∷ t) zero d = refl

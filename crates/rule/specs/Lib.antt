@@ -2,3 +2,4 @@ pub mod Limits
 pub mod Rows
 pub mod Tables
 pub mod Horizons
+pub mod Made
