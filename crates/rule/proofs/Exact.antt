@@ -23,7 +23,7 @@ module _ (rows : List NodeRow) (r : Rule) (e : map rowOf (nodesOf r) ≡ rows) w
   long : length rows ≡ r .count
   long = sym (ap length e) ∙ length-mapped rowOf (nodesOf r) ∙ simp length-take (let h = r .held in omega arith)
 
-  never : (m : Misfit) → Refused rows m → ⊥
+  pub never : (m : Misfit) → Refused rows m → ⊥
   never m (wrong-count _ (inl z)) = let l = long in let s = r .some in omega arith
   never m (wrong-count _ (inr z)) = let l = long in let s = r .few in omega arith
   never m (no-node i _ _ h _ n) =

@@ -1,0 +1,8 @@
+use mathlib.Core.Path.{refl}
+use native.Mathlib.Omega.{arith}
+use borrow.Author.Needs.{needs}
+use Rattle.record.proofs.Bytes.{read-back}
+use Rattle.record.proofs.format.read_u16.Needs as need
+
+pub returns : need.returns
+returns c = read-back 1 (c .from-le-bytes .result) (c .args .bytes .now) (c .pre) refl (search needs, (search needs, tt)) (omega arith)

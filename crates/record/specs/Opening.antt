@@ -1,0 +1,102 @@
+-- What opening a record answers. Assumes nothing.
+use mathlib.Core.Bool.{true}
+use mathlib.Core.List.{List, [], _++_, map}
+use mathlib.Core.Logic.{_⊎_}
+use mathlib.Core.Path.{_≡_}
+use Prim.Native.Nat.{ℕ, _+_, _*_, _<_, _≤_}
+use lib.ListN.{length}
+use Rattle.std.specs.Results.{isOk}
+use Rattle.std.specs.declared.result.Result.{Result}
+use Rattle.std.specs.declared.result.Result.the-variants.{Ok, Err}
+use Rattle.refusal.specs.declared.Misfit.{Misfit}
+use Rattle.refusal.specs.declared.Refusal.{Refusal}
+use Rattle.refusal.specs.declared.Refusal.the-variants as refusal
+use Rattle.rule.specs.Limits.{most-nodes}
+use Rattle.rule.specs.Made.{nodesOf, Refused}
+use Rattle.rule.specs.Rows.{rowOf}
+use Rattle.rule.specs.declared.node.NodeRow.{NodeRow}
+use Rattle.rule.specs.declared.rule.Rule.{Rule}
+use Rattle.sample.specs.Limits.{most-samples}
+use Rattle.record.specs.Format.{one, four, nodes-then, samples-then}
+use Rattle.record.specs.declared.opening.Opened.{Opened}
+
+abbrev pub rowsOf : Rule → List NodeRow
+rowsOf rule = map rowOf (nodesOf rule)
+
+-- the place after the nodes, where the count of samples stands, and the place where the samples start
+abbrev pub after-nodes : Rule → ℕ
+after-nodes rule = 1 + 7 * length (rowsOf rule)
+
+abbrev pub start-of : Rule → ℕ
+start-of rule = 5 + 7 * length (rowsOf rule)
+
+-- the bytes are a record of this rule and so many samples
+pub record Holds (bytes : List ℕ) (rule : Rule) (samples : ℕ) : Type 0 where
+  pub body : List ℕ
+  pub whole : bytes ≡ nodes-then (rowsOf rule) (samples-then samples body)
+  pub few : samples ≤ most-samples
+  pub sixteen : length body ≡ 16 * samples
+
+abbrev at : Refusal → ℕ → Misfit
+at why place = record { refusal = why; place = place }
+
+-- why bytes are no record: the first test that fails, from the front
+pub data Broken (bytes : List ℕ) (m : Misfit) : Type 0 where
+  no-count : m ≡ at refusal.Cut 0 → bytes ≡ [] → Broken bytes m
+  wrong-count :
+      (count : ℕ) (rest : List ℕ) →
+      m ≡ at refusal.Count 0 →
+      bytes ≡ one count ++ rest →
+      (count ≡ 0) ⊎ (most-nodes < count) →
+      Broken bytes m
+  nodes-cut :
+      (count : ℕ) (rest : List ℕ) →
+      m ≡ at refusal.Cut 1 →
+      bytes ≡ one count ++ rest →
+      0 < count →
+      count ≤ most-nodes →
+      length rest < 7 * count →
+      Broken bytes m
+  no-rule :
+      (rows : List NodeRow) (why : Misfit) (rest : List ℕ) →
+      m ≡ at (why .refusal) (1 + 7 * why .place) →
+      bytes ≡ nodes-then rows rest →
+      0 < length rows →
+      length rows ≤ most-nodes →
+      Refused rows why →
+      Broken bytes m
+  no-sample-count :
+      (rule : Rule) (rest : List ℕ) →
+      m ≡ at refusal.Cut (after-nodes rule) →
+      bytes ≡ nodes-then (rowsOf rule) rest →
+      length rest < 4 →
+      Broken bytes m
+  wrong-sample-count :
+      (rule : Rule) (samples : ℕ) (body : List ℕ) →
+      m ≡ at refusal.Count (after-nodes rule) →
+      bytes ≡ nodes-then (rowsOf rule) (samples-then samples body) →
+      most-samples < samples →
+      Broken bytes m
+  samples-cut :
+      (rule : Rule) (samples : ℕ) (body : List ℕ) →
+      m ≡ at refusal.Cut (start-of rule) →
+      bytes ≡ nodes-then (rowsOf rule) (samples-then samples body) →
+      samples ≤ most-samples →
+      length body < 16 * samples →
+      Broken bytes m
+  more-bytes :
+      (rule : Rule) (samples : ℕ) (body : List ℕ) →
+      m ≡ at refusal.Surplus (start-of rule + 16 * samples) →
+      bytes ≡ nodes-then (rowsOf rule) (samples-then samples body) →
+      samples ≤ most-samples →
+      16 * samples < length body →
+      Broken bytes m
+
+-- the answer, and the rule that the caller has then
+abbrev pub Answered : List ℕ → Rule → Rule → Result Opened Misfit → Type 0
+Answered bytes before rule (Ok o) = Holds bytes rule (o .samples) × (o .start ≡ start-of rule)
+Answered bytes before rule (Err m) = Broken bytes m × (rule ≡ before)
+
+-- a record of a rule is never refused
+abbrev pub Exactly : List ℕ → Result Opened Misfit → Type 0
+Exactly bytes a = (rule : Rule) (samples : ℕ) → Holds bytes rule samples → isOk a ≡ true

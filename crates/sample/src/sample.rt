@@ -1,0 +1,16 @@
+// The struct stands alone: its ghost fields import each `ghost use` of this file.
+ghost use Prim.Native.Nat.{ℕ, _<_, _≤_};
+ghost use lib.ListN.{getD};
+ghost use Rattle.sample.specs.Limits.{stamp-limit};
+ghost use Rattle.scale.specs.Limits.{largest-code};
+use crate::row::SampleRow;
+
+mod ops;
+
+/// A sample: a stamp in ticks, 0 to 2^40 − 1, and four codes, for channels 0 to 3. No sample can hold anything else.
+#[derive(Clone, Copy)]
+pub struct Sample {
+    row: SampleRow,
+    ghost early: { row .stamp < stamp-limit },
+    ghost within: { (k : ℕ) → getD (row .codes) k 0 ≤ largest-code },
+}

@@ -1,0 +1,83 @@
+ghost use mathlib.Core.Path.{_≡_};
+ghost use Prim.Native.Nat.{_<_, _≤_};
+ghost use lib.ListN.{getD};
+ghost use Rattle.std.specs.Options.{Cases as BySome};
+ghost use Rattle.std.specs.Results.{Cases};
+ghost use Rattle.refusal.specs.declared.Refusal.the-variants.{Range};
+ghost use Rattle.sample.specs.Rows.{Fits, clamped};
+ghost use Rattle.sample.specs.declared.sample.Sample.{Sample as Checked};
+use crate::row::SampleRow;
+use crate::sample::Sample;
+use refusal::Refusal;
+use scale::Code;
+
+impl Sample {
+    /// The first stamp that is too late for a sample. The limit of stamps stands here and nowhere else.
+    pub const STAMP_LIMIT: u64 = 1 << 40;
+
+    /// The sample of a stamp and four codes, refused as out of range where the stamp is not below the limit or a code is above the largest.
+    pub fn new(stamp: u64, codes: [u16; 4]) -> Result<Sample, Refusal>
+        ensures { λ r. ⌜ Cases r (λ sample. sample .row ≡ record { stamp = stamp; codes = codes }) (λ why. (why ≡ Range) × (Fits (record { stamp = stamp; codes = codes }) → ⊥)) ⌝ }
+    {
+        if stamp >= Sample::STAMP_LIMIT {
+            return Err(Refusal::Range);
+        }
+        for code in &codes {
+            if *code > Code::LARGEST {
+                return Err(Refusal::Range);
+            }
+        }
+        Ok(Sample {
+            row: SampleRow { stamp, codes },
+        })
+    }
+
+    /// Reads a row back: a figure above its limit counts as the limit. A row that was a sample's gives that sample again.
+    pub fn from_row(row: SampleRow) -> Sample
+        ensures clamps { λ r. ⌜ r .row ≡ clamped row ⌝ }
+        ensures again { λ r. ⌜ ((sample : Checked) → row ≡ sample .row → r ≡ sample) ⌝ }
+    {
+        let mut codes = row.codes;
+        for code in codes.iter_mut() {
+            *code = (*code).min(Code::LARGEST);
+        }
+        Sample {
+            row: SampleRow {
+                stamp: row.stamp.min(Sample::STAMP_LIMIT - 1),
+                codes,
+            },
+        }
+    }
+
+    /// The plain row, to be kept in lent memory.
+    pub fn row(&self) -> SampleRow
+        ensures { λ r. ⌜ r ≡ now (self .entry) .row ⌝ }
+    {
+        self.row
+    }
+
+    /// The stamp, in ticks.
+    pub fn stamp(&self) -> u64
+        ensures { λ r. ⌜ r ≡ now (self .entry) .row .stamp ⌝ }
+    {
+        self.row.stamp
+    }
+
+    /// The codes of channels 0 to 3.
+    pub fn codes(&self) -> [u16; 4]
+        ensures { λ r. ⌜ r ≡ now (self .entry) .row .codes ⌝ }
+    {
+        self.row.codes
+    }
+
+    /// The code of a channel; there is none past channel 3.
+    pub fn code(&self, channel: usize) -> Option<Code>
+        ensures { λ r. ⌜ BySome r (3 < channel) (λ code. (channel ≤ 3) × (code .value ≡ getD (now (self .entry) .row .codes) channel 0)) ⌝ }
+    {
+        if channel > 3 {
+            return None;
+        }
+        let code = self.row.codes[channel];
+        Some(Code::nearest(code))
+    }
+}
