@@ -7,15 +7,25 @@ use lib.ListN.{length, getD, take, drop, length-drop, take-append-drop}
 use lib.Seq.{drop-cons}
 use Rattle.std.proofs.shelf.Lists.{drop-drop, drop-all, take-all}
 use Rattle.record.specs.Format.{low-first}
-
--- the number that bytes spell
-abbrev pub number : List ℕ → ℕ
-number [] = 0
-number (b ∷ bs) = b + 256 * number bs
+use Rattle.record.specs.Reading.{number}
 
 abbrev pub Bytes : List ℕ → Type 0
 Bytes [] = Unit {0}
 Bytes (b ∷ bs) = (b < 256) × Bytes bs
+
+pub bytes-of : (bs : List ℕ) → ((i : ℕ) → getD bs i 0 < 256) → Bytes bs
+bytes-of [] h = tt
+bytes-of (b ∷ bs) h = (h 0, bytes-of bs (λ i. h (suc i)))
+
+pub bytes-take : (n : ℕ) (bs : List ℕ) → Bytes bs → Bytes (take n bs)
+bytes-take zero bs h = tt
+bytes-take (suc n) [] h = tt
+bytes-take (suc n) (b ∷ bs) h = (h .0, bytes-take n bs (h .1))
+
+pub bytes-drop : (n : ℕ) (bs : List ℕ) → Bytes bs → Bytes (drop n bs)
+bytes-drop zero bs h = h
+bytes-drop (suc n) [] h = tt
+bytes-drop (suc n) (b ∷ bs) h = bytes-drop n bs (h .1)
 
 -- n elements from i on
 abbrev pub elements : List ℕ → ℕ → ℕ → List ℕ
@@ -28,7 +38,7 @@ elements-are bs i (suc n) e =
     let h : i < length bs = omega arith in
     drop-cons bs i 0 h ∙ ap (λ r. getD bs i 0 ∷ r) (elements-are bs (suc i) n (omega arith))
 
-written : (w : ℕ) (bs : List ℕ) → length bs ≡ suc w → Bytes bs → low-first w (number bs) ≡ bs
+pub written : (w : ℕ) (bs : List ℕ) → length bs ≡ suc w → Bytes bs → low-first w (number bs) ≡ bs
 written w [] e h = let z : suc w ≡ 0 = sym e in absurd (let k : ⊥ = omega arith in k)
 written zero (b ∷ []) e h = ap (λ n. n ∷ []) (omega arith)
 written zero (b ∷ a ∷ bs) e h = absurd (let k : ⊥ = omega arith in k)

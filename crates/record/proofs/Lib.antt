@@ -1,3 +1,4 @@
 pub mod Bytes
 pub mod Sections
 pub mod Exact
+pub mod Samples

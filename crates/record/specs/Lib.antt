@@ -1,2 +1,4 @@
 pub mod Format
 pub mod Opening
+pub mod Coming
+pub mod Reading

@@ -50,7 +50,8 @@ pub(crate) fn read_node(bytes: &[u8]) -> NodeRow
 
 pub(crate) fn read_sample(bytes: &[u8]) -> SampleRow
     requires { ⌜ length (now bytes) ≡ 16 ⌝ }
-    ensures { λ r. ⌜ sample-bytes r ≡ now (bytes .entry) ⌝ }
+    ensures spells { λ r. ⌜ sample-bytes r ≡ now (bytes .entry) ⌝ }
+    ensures four { λ r. ⌜ length (r .codes) ≡ 4 ⌝ }
 {
     SampleRow {
         stamp: read_u64(&bytes[0..8]),

@@ -1,7 +1,7 @@
 -- Two samples of one row are the same. Assumes nothing.
 use mathlib.Core.Path.{_≡_}
 use mathlib.Core.HLevel.{isProp→PathP}
-use Prim.Native.Nat.{ℕ, _<_, _≤_}
+use Prim.Native.Nat.{_<_, _≤_}
 use lib.ListN.{getD}
 use native.Mathlib.Bridge.{le-prop}
 use Rattle.scale.specs.Limits.{largest-code}

@@ -23,5 +23,5 @@ abbrev pub wave : Pattern → Coming
 wave p = record { samples = wave-from p 0 (p .count); ending = Dry }
 
 -- what a calibrator has yet to give
-abbrev pub waveLeft : Calibrator → Coming
-waveLeft c = record { samples = wave-from (c .pattern) (c .taken) (c .pattern .count - c .taken); ending = Dry }
+abbrev pub wave-left : Calibrator → Coming
+wave-left c = record { samples = wave-from (c .pattern) (c .taken) (c .pattern .count - c .taken); ending = Dry }

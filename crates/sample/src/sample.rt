@@ -5,7 +5,8 @@ ghost use Rattle.sample.specs.Limits.{stamp-limit};
 ghost use Rattle.scale.specs.Limits.{largest-code};
 use crate::row::SampleRow;
 
-mod ops;
+mod figures;
+mod rows;
 
 /// A sample: a stamp in ticks, 0 to 2^40 − 1, and four codes, for channels 0 to 3. No sample can hold anything else.
 #[derive(Clone, Copy)]

@@ -1,7 +1,7 @@
 use mathlib.Core.Bool.{cond}
 use mathlib.Core.List.{[], _∷_}
 use mathlib.Core.Path.{_≡_, _∙_, ap}
-use Prim.Native.Nat.{ℕ, _+_, _-_, _/_, _%_, min}
+use Prim.Native.Nat.{_+_, _-_, _/_, _%_, min}
 use native.Mathlib.Omega.{arith}
 use borrow.Author.Needs.{needs}
 use lib.Dec.{eqb}
@@ -10,7 +10,6 @@ use Rattle.std.specs.declared.result.Result.the-variants.{Ok}
 use Rattle.sample.specs.Limits.{stamp-limit}
 use Rattle.sample.specs.Rows.{nearest}
 use Rattle.sample.specs.Waves.{wave-at}
-use Rattle.sample.specs.declared.row.SampleRow.{SampleRow}
 use Rattle.sample.proofs.Wave.{wave-more}
 use Rattle.sample.proofs.calibrator.ops.CalibratorSource.peek.Needs as need
 use Rattle.sample.proofs.calibrator.ops.CalibratorSource.peek.Needs.{then-half-eq0, else-half-eq0}
