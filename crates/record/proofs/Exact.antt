@@ -6,7 +6,8 @@ use Prim.Native.Nat.{ℕ, suc, _+_, _*_, _/_, _%_, _<_, _≤_}
 use native.Mathlib.Omega.{arith}
 use lib.ListN.{length, length-append, length-take}
 use Rattle.std.proofs.shelf.Lists.{length-map}
-use Rattle.std.specs.declared.result.Result.the-variants.{Err}
+use Rattle.std.specs.declared.result.Result.{Result}
+use Rattle.std.specs.declared.result.Result.the-variants.{Ok, Err}
 use Rattle.refusal.specs.declared.Misfit.{Misfit}
 use Rattle.rule.specs.Limits.{most-nodes}
 use Rattle.rule.specs.Made.{nodesOf, Refused}
@@ -15,7 +16,8 @@ use Rattle.rule.specs.declared.node.NodeRow.{NodeRow}
 use Rattle.rule.specs.declared.rule.Rule.{Rule}
 use Rattle.rule.proofs.Exact as made
 use Rattle.record.specs.Format.{each, four, node-bytes, nodes-then, samples-then}
-use Rattle.record.specs.Opening.{rowsOf, Holds, Broken, Exactly, no-count, wrong-count, nodes-cut, no-rule, no-sample-count, wrong-sample-count, samples-cut, more-bytes}
+use Rattle.record.specs.Opening.{rowsOf, Holds, Broken, Answered, Exactly, Tested, no-count, wrong-count, nodes-cut, no-rule, no-sample-count, wrong-sample-count, samples-cut, more-bytes}
+use Rattle.record.specs.declared.opening.Opened.{Opened}
 use Rattle.record.proofs.Sections.{length-nodes}
 
 -- what bytes are written from is known from the bytes
@@ -59,7 +61,7 @@ module _ (bytes : List ℕ) (rule : Rule) (samples : ℕ) (h : Holds bytes rule 
   rest : List ℕ
   rest = samples-then samples (h .body)
 
-  never : (m : Misfit) → Broken bytes m → ⊥
+  pub never : (m : Misfit) → Broken bytes m → ⊥
   unfolding rest
   never m (no-count _ e) = let z : _≡_ {A = ℕ} 0 1 = let w = ap length (sym e ∙ h .whole) in omega arith in omega arith
   never m (wrong-count n xs _ e (inl z)) =
@@ -93,3 +95,7 @@ module _ (bytes : List ℕ) (rule : Rule) (samples : ℕ) (h : Holds bytes rule 
 
 pub refused : (bytes : List ℕ) (m : Misfit) → Broken bytes m → Exactly bytes (Err m)
 refused bytes m why rule samples h = absurd (never bytes rule samples h m why)
+
+pub tested : (bytes : List ℕ) (before rule : Rule) (a : Result Opened Misfit) → Answered bytes before rule a → Exactly bytes a → Tested bytes a
+tested bytes before rule (Ok o) h e = record { told = (rule, o .samples, h .0); exactly = e }
+tested bytes before rule (Err m) h e = record { told = h .0; exactly = e }

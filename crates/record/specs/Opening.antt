@@ -5,9 +5,10 @@ use mathlib.Core.Logic.{_⊎_}
 use mathlib.Core.Path.{_≡_}
 use Prim.Native.Nat.{ℕ, _+_, _*_, _<_, _≤_}
 use lib.ListN.{length}
-use Rattle.std.specs.Results.{isOk}
+use Rattle.std.specs.Results.{isOk, Cases}
 use Rattle.std.specs.declared.result.Result.{Result}
 use Rattle.std.specs.declared.result.Result.the-variants.{Ok, Err}
+use Rattle.refusal.specs.Table.{numberOf}
 use Rattle.refusal.specs.declared.Misfit.{Misfit}
 use Rattle.refusal.specs.declared.Refusal.{Refusal}
 use Rattle.refusal.specs.declared.Refusal.the-variants as refusal
@@ -100,3 +101,18 @@ Answered bytes before rule (Err m) = Broken bytes m × (rule ≡ before)
 -- a record of a rule is never refused
 abbrev pub Exactly : List ℕ → Result Opened Misfit → Type 0
 Exactly bytes a = (rule : Rule) (samples : ℕ) → Holds bytes rule samples → isOk a ≡ true
+
+-- the opening test alone, with no caller's rule
+abbrev pub Opens : List ℕ → Type 0
+Opens bytes = (rule : Rule) × (samples : ℕ) × Holds bytes rule samples
+
+pub record Tested (bytes : List ℕ) (a : Result Opened Misfit) : Type 0 where
+  pub told : Cases a (λ _. Opens bytes) (λ m. Broken bytes m)
+  pub exactly : Exactly bytes a
+
+-- the number and the place of the answer, each 0 if the bytes open
+abbrev pub Number-told : List ℕ → ℕ → Type 0
+Number-told bytes n = (Opens bytes × (n ≡ 0)) ⊎ ((m : Misfit) × Broken bytes m × (n ≡ numberOf (m .refusal)))
+
+abbrev pub Place-told : List ℕ → ℕ → Type 0
+Place-told bytes p = (Opens bytes × (p ≡ 0)) ⊎ ((m : Misfit) × Broken bytes m × (p ≡ m .place))

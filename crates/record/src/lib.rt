@@ -1,8 +1,11 @@
 //! Records: a rule and the samples of a capture, as bytes.
+mod c_calls;
 mod format;
 mod opening;
 mod source;
 
+pub use c_calls::comriep_record_number;
+pub use c_calls::comriep_record_place;
 pub use opening::Opened;
 pub use opening::open;
 pub use source::RecordSource;

@@ -1,1 +1,4 @@
 pub mod Limits
+pub mod Laws
+pub mod PassFails
+pub mod Margins

@@ -1,0 +1,3 @@
+pub mod Lattice
+mod Values
+mod Restored
