@@ -25,7 +25,7 @@ number-written : (w n : ℕ) → number (low-first w n) ≡ n
 number-written zero n = omega arith
 number-written (suc w) n = ap (λ m. n % 256 + 256 * m) (number-written w (n / 256)) ∙ omega arith
 
-row-written : (s : ℕ) (cs : List ℕ) → length cs ≡ 4 → row-of (eight s ++ each two cs) ≡ record { stamp = s; codes = cs }
+pub row-written : (s : ℕ) (cs : List ℕ) → length cs ≡ 4 → row-of (eight s ++ each two cs) ≡ record { stamp = s; codes = cs }
 row-written s cs e =
     subst (λ cs. row-of (eight s ++ each two cs) ≡ record { stamp = s; codes = cs }) (sym (elements-are cs 0 4 e))
     (λ i. record {

@@ -55,9 +55,9 @@ module _ (bs : List ℕ) (rows : List NodeRow) (rest : List ℕ) (e : bs ≡ nod
       ap (λ k. drop k bs) n ∙ ap (drop (suc (length (each node-bytes rows)))) e ∙ drop-append-seam (each node-bytes rows) rest
 
   -- .. begins with the count of samples
-  pub samples-whole : (n w at : ℕ) → w ≡ 4 → at ≡ 1 + 7 * length rows → four n ≡ take w (drop at bs) → bs ≡ nodes-then rows (samples-then n (drop 4 rest))
+  pub samples-whole : (n w at : ℕ) → w ≡ 4 → at ≡ 1 + 7 * length rows → four n ≡ take w (drop at bs) → rest ≡ samples-then n (drop 4 rest)
   samples-whole n w at p q f =
-      e ∙ ap (nodes-then rows) (sym (take-append-drop 4 rest) ∙ ap (λ r. r ++ drop 4 rest) (sym (f ∙ ap₂ (λ k a. take k (drop a bs)) p q ∙ ap (take 4) drop-whole)))
+      sym (take-append-drop 4 rest) ∙ ap (λ r. r ++ drop 4 rest) (sym (f ∙ ap₂ (λ k a. take k (drop a bs)) p q ∙ ap (take 4) drop-whole))
 
 -- a refusal of at most 32 rows speaks of a place below 32
 pub place-small : (rows : List NodeRow) (m : Misfit) → length rows ≤ most-nodes → Refused rows m → m .place < most-nodes

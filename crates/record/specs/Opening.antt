@@ -38,21 +38,45 @@ pub record Holds (bytes : List ℕ) (rule : Rule) (samples : ℕ) : Type 0 where
   pub few : samples ≤ most-samples
   pub sixteen : length body ≡ 16 * samples
 
-abbrev at : Refusal → ℕ → Misfit
-at why place = record { refusal = why; place = place }
+abbrev misfit-at : Refusal → ℕ → Misfit
+misfit-at why place = record { refusal = why; place = place }
+
+-- why bytes at a place are not the section of the samples and nothing more: the first test that fails
+pub data No-samples (place : ℕ) (bytes : List ℕ) (m : Misfit) : Type 0 where
+  no-sample-count : m ≡ misfit-at refusal.Cut place → length bytes < 4 → No-samples place bytes m
+  wrong-sample-count :
+      (samples : ℕ) (body : List ℕ) →
+      m ≡ misfit-at refusal.Count place →
+      bytes ≡ samples-then samples body →
+      most-samples < samples →
+      No-samples place bytes m
+  samples-cut :
+      (samples : ℕ) (body : List ℕ) →
+      m ≡ misfit-at refusal.Cut (place + 4) →
+      bytes ≡ samples-then samples body →
+      samples ≤ most-samples →
+      length body < 16 * samples →
+      No-samples place bytes m
+  more-bytes :
+      (samples : ℕ) (body : List ℕ) →
+      m ≡ misfit-at refusal.Surplus (place + 4 + 16 * samples) →
+      bytes ≡ samples-then samples body →
+      samples ≤ most-samples →
+      16 * samples < length body →
+      No-samples place bytes m
 
 -- why bytes are no record: the first test that fails, from the front
 pub data Broken (bytes : List ℕ) (m : Misfit) : Type 0 where
-  no-count : m ≡ at refusal.Cut 0 → bytes ≡ [] → Broken bytes m
+  no-count : m ≡ misfit-at refusal.Cut 0 → bytes ≡ [] → Broken bytes m
   wrong-count :
       (count : ℕ) (rest : List ℕ) →
-      m ≡ at refusal.Count 0 →
+      m ≡ misfit-at refusal.Count 0 →
       bytes ≡ one count ++ rest →
       (count ≡ 0) ⊎ (most-nodes < count) →
       Broken bytes m
   nodes-cut :
       (count : ℕ) (rest : List ℕ) →
-      m ≡ at refusal.Cut 1 →
+      m ≡ misfit-at refusal.Cut 1 →
       bytes ≡ one count ++ rest →
       0 < count →
       count ≤ most-nodes →
@@ -60,47 +84,23 @@ pub data Broken (bytes : List ℕ) (m : Misfit) : Type 0 where
       Broken bytes m
   no-rule :
       (rows : List NodeRow) (why : Misfit) (rest : List ℕ) →
-      m ≡ at (why .refusal) (1 + 7 * why .place) →
+      m ≡ misfit-at (why .refusal) (1 + 7 * why .place) →
       bytes ≡ nodes-then rows rest →
       0 < length rows →
       length rows ≤ most-nodes →
       Refused rows why →
       Broken bytes m
-  no-sample-count :
-      (rule : Rule) (rest : List ℕ) →
-      m ≡ at refusal.Cut (after-nodes rule) →
-      bytes ≡ nodes-then (rowsOf rule) rest →
-      length rest < 4 →
-      Broken bytes m
-  wrong-sample-count :
-      (rule : Rule) (samples : ℕ) (body : List ℕ) →
-      m ≡ at refusal.Count (after-nodes rule) →
-      bytes ≡ nodes-then (rowsOf rule) (samples-then samples body) →
-      most-samples < samples →
-      Broken bytes m
-  samples-cut :
-      (rule : Rule) (samples : ℕ) (body : List ℕ) →
-      m ≡ at refusal.Cut (start-of rule) →
-      bytes ≡ nodes-then (rowsOf rule) (samples-then samples body) →
-      samples ≤ most-samples →
-      length body < 16 * samples →
-      Broken bytes m
-  more-bytes :
-      (rule : Rule) (samples : ℕ) (body : List ℕ) →
-      m ≡ at refusal.Surplus (start-of rule + 16 * samples) →
-      bytes ≡ nodes-then (rowsOf rule) (samples-then samples body) →
-      samples ≤ most-samples →
-      16 * samples < length body →
-      Broken bytes m
+  no-samples : (rule : Rule) (rest : List ℕ) → bytes ≡ nodes-then (rowsOf rule) rest → No-samples (after-nodes rule) rest m → Broken bytes m
 
 -- the answer, and the rule that the caller has then
 abbrev pub Answered : List ℕ → Rule → Rule → Result Opened Misfit → Type 0
 Answered bytes before rule (Ok o) = Holds bytes rule (o .samples) × (o .start ≡ start-of rule)
 Answered bytes before rule (Err m) = Broken bytes m × (rule ≡ before)
 
--- a record of a rule is never refused
-abbrev pub Exactly : List ℕ → Result Opened Misfit → Type 0
-Exactly bytes a = (rule : Rule) (samples : ℕ) → Holds bytes rule samples → isOk a ≡ true
+-- and there is no other: a record is never refused, and other bytes by one refusal only
+pub record Exactly (bytes : List ℕ) (a : Result Opened Misfit) : Type 0 where
+  pub opens : (rule : Rule) (samples : ℕ) → Holds bytes rule samples → isOk a ≡ true
+  pub refuses : (m : Misfit) → Broken bytes m → a ≡ Err m
 
 -- the opening test alone, with no caller's rule
 abbrev pub Opens : List ℕ → Type 0

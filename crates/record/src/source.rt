@@ -2,6 +2,7 @@
 ghost use Rattle.record.specs.Coming.{Comes};
 ghost use Rattle.record.specs.Reading.{comingOf, fault, Seen};
 ghost use mathlib.Core.Path.{_≡_};
+ghost use Rattle.sample.specs.Coming.{Coming};
 use crate::format::read_sample;
 use refusal::Fault;
 use refusal::Refusal;
@@ -20,7 +21,8 @@ pub struct RecordSource<'a> {
 impl<'a> RecordSource<'a> {
     /// The source of a record's bytes from a start place on: none and dry where that is past the end.
     pub fn new(bytes: &'a [u8], start: usize) -> RecordSource<'a>
-        ensures { λ r. ⌜ Comes (now (bytes .entry)) start (comingOf r) ⌝ }
+        ensures comes { λ r. ⌜ Comes (now (bytes .entry)) start (comingOf r) ⌝ }
+        ensures only { λ r. ⌜ ((coming : Coming) → Comes (now (bytes .entry)) start coming → comingOf r ≡ coming) ⌝ }
     {
         let at = start.min(bytes.len());
         RecordSource { bytes, at }
@@ -61,8 +63,9 @@ pub impl<'a> Source for RecordSource<'a> as RecordSourceSource {
     }
 
     fn step(&mut self) {
-        if sample_at(self.bytes, self.at).is_ok() {
-            self.at += 16;
+        let at = self.at;
+        if sample_at(self.bytes, at).is_ok() {
+            self.at = at + 16;
         }
     }
 }

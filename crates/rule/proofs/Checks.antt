@@ -4,16 +4,15 @@ use mathlib.Core.Logic.{_≢_}
 use mathlib.Core.List.{List, map}
 use Prim.Native.Nat.{ℕ, _+_, _<_, _≤_}
 use native.Mathlib.Omega.{arith}
-use lib.ListN.{length, getD, take, set, length-take}
+use lib.ListN.{length, getD, take, set, length-take, List·getD-map}
 use lib.Seq.{getD-set-same, getD-set-other}
 use borrow.Author.Count.{below-more}
-use Rattle.std.proofs.shelf.Lists.{getD-take, getD-default, same-lists}
+use Rattle.std.proofs.shelf.Lists.{getD-take, getD-default, length-map, same-lists}
 use Rattle.rule.specs.Rows.{Fits, rowOf}
 use Rattle.rule.specs.Tables.{Sound}
 use Rattle.rule.specs.declared.node.Node.{Node}
 use Rattle.rule.specs.declared.node.Node.the-variants.{True}
 use Rattle.rule.specs.declared.node.NodeRow.{NodeRow}
-use Rattle.rule.proofs.Fused.{getD-mapped, length-mapped}
 
 -- the node at k has the row at k, and fits there
 abbrev pub Reads : List NodeRow → List Node → ℕ → Type 0
@@ -33,11 +32,11 @@ module _ (rows : List NodeRow) (ns : List Node) (m : ℕ) (e : m ≡ length rows
 
   pub reads-rows : map rowOf (take m ns) ≡ rows
   reads-rows =
-      let long : length (map rowOf (take m ns)) ≡ length rows = length-mapped rowOf (take m ns) ∙ simp length-take (omega arith) in
+      let long : length (map rowOf (take m ns)) ≡ length rows = length-map (take m ns) rowOf ∙ simp length-take (omega arith) in
       same-lists _ _ long (λ k d h.
       let l : k < m = omega arith in
       getD-default (map rowOf (take m ns)) k d (rowOf True) h
-      ∙ getD-mapped rowOf (take m ns) k True
+      ∙ List·getD-map rowOf (take m ns) k True
       ∙ ap rowOf (getD-take m ns k True l)
       ∙ inv k (omega arith) .0
       ∙ getD-default rows k (rowOf True) d (omega arith))

@@ -52,6 +52,7 @@ abbrev pub Made : List NodeRow → Result Rule Misfit → Type 0
 Made rows (Ok r) = map rowOf (nodesOf r) ≡ rows
 Made rows (Err m) = Refused rows m
 
--- rows of a rule are never refused
-abbrev pub Exactly : List NodeRow → Result Rule Misfit → Type 0
-Exactly rows a = (r : Rule) → map rowOf (nodesOf r) ≡ rows → isOk a ≡ true
+-- and there is no other: rows of a rule are never refused, and other rows by one refusal only
+pub record Exactly (rows : List NodeRow) (a : Result Rule Misfit) : Type 0 where
+  pub makes : (r : Rule) → map rowOf (nodesOf r) ≡ rows → isOk a ≡ true
+  pub refuses : (m : Misfit) → Refused rows m → a ≡ Err m

@@ -93,6 +93,6 @@ impl Rule {
     pub fn span(&self) -> u64
         ensures { λ r. ⌜ r ≡ span (formula (nodesOf (now (self .entry)))) ⌝ }
     {
-        self.horizon.wait + self.horizon.reach
+        self.wait() + self.reach()
     }
 }

@@ -9,7 +9,7 @@ use Rattle.rule.specs.Made.{Stands, wrong-count, no-node, too-far}
 use Rattle.rule.specs.declared.horizon.Horizon.{Horizon}
 use Rattle.rule.specs.declared.node.Node.the-variants.{True}
 use Rattle.rule.proofs.Checks.{Reads, reads-more, reads-sound, reads-rows}
-use Rattle.rule.proofs.Exact.{refused}
+use Rattle.rule.proofs.Exact.{refused, made}
 use Rattle.rule.proofs.Fused.{last-horizon}
 use Rattle.rule.proofs.rule.Rule.from_rows.Needs as need
 use Rattle.rule.proofs.rule.Rule.from_rows.Needs.{then-is-empty·by·then-is-empty, then-is-empty·by·else-is-empty·then-rows-gt-MOST-NODES}
@@ -59,7 +59,6 @@ ghost-result c =
     (omega arith, (omega arith, (omega arith, (sound, (ap (λ (x : Horizon). x .wait) far, (ap (λ (x : Horizon). x .reach) far, (c .if-horizon-gt-LARGEST-SPAN .left, tt)))))))
 
 pub returns : need.returns
-returns c = record {
-  made = reads-rows (c .args .rows .now) (c .loop-i .nodes) (length (c .args .rows .now)) refl (omega arith) (λ k h. c .loop-i .inv .1 k (omega arith));
-  exactly = λ _ _. refl;
-}
+returns c =
+    let rows = reads-rows (c .args .rows .now) (c .loop-i .nodes) (length (c .args .rows .now)) refl (omega arith) (λ k h. c .loop-i .inv .1 k (omega arith)) in
+    record { made = rows; exactly = made _ _ rows }
