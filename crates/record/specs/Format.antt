@@ -5,7 +5,7 @@ use lib.ListN.{length}
 use Rattle.rule.specs.declared.node.NodeRow.{NodeRow}
 use Rattle.sample.specs.declared.row.SampleRow.{SampleRow}
 
--- a number in so many bytes and one more, the low byte first; the last byte has what is left, so that each byte is one
+-- a number in so many bytes and one more, the low byte first; the last has all that is left, so it is below 256, a byte,
 -- only if the number fits
 abbrev pub low-first : ℕ → ℕ → List ℕ
 low-first zero n = n ∷ []

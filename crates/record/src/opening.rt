@@ -26,10 +26,11 @@ impl Opened {
     pub const MOST_SAMPLES: u32 = 1_000_000;
 }
 
-/// The bytes of a node, and of a sample.
+/// The bytes of a node.
 const NODE: usize = 7;
 
-const SAMPLE: usize = 16;
+/// The bytes of a sample.
+pub(crate) const SAMPLE: usize = 16;
 
 /// Opens a record: fills the caller's rule, and answers how many samples there are and where they start. Bytes that are
 /// no record are refused by the first test that fails, and leave the rule as it was.
@@ -77,7 +78,7 @@ fn read_rule(bytes: &[u8]) -> Result<Rule, Misfit>
 }
 
 /// The rows of so many nodes, in the first places.
-fn read_rows(bytes: &[u8], count: usize) -> [NodeRow; 32]
+fn read_rows(bytes: &[u8], count: usize) -> [NodeRow; Rule::MOST_NODES]
     requires { ⌜ count ≤ most-nodes ⌝ ∗ ⌜ 1 + 7 * count ≤ length (now bytes) ⌝ }
     ensures held { λ r. ⌜ length r ≡ most-nodes ⌝ }
     ensures rows { λ r. ⌜ drop 1 (now (bytes .entry)) ≡ each node-bytes (take count r) ++ drop (1 + 7 * count) (now (bytes .entry)) ⌝ }
@@ -89,7 +90,7 @@ fn read_rows(bytes: &[u8], count: usize) -> [NodeRow; 32]
         low: 0,
         high: 0,
     };
-    let mut rows = [none; 32];
+    let mut rows = [none; Rule::MOST_NODES];
     for i in 0..count {
         let at = 1 + NODE * i;
         rows[i] = read_node(&bytes[at..at + NODE]);

@@ -4,6 +4,7 @@ ghost use Rattle.record.specs.Reading.{comingOf, fault, Seen};
 ghost use mathlib.Core.Path.{_≡_};
 ghost use Rattle.sample.specs.Coming.{Coming};
 use crate::format::read_sample;
+use crate::opening::SAMPLE;
 use refusal::Fault;
 use refusal::Refusal;
 use sample::Ending;
@@ -45,10 +46,10 @@ fn sample_at(bytes: &[u8], at: usize) -> Result<Sample, Ending>
     if at >= bytes.len() {
         return Err(Ending::Dry);
     }
-    if bytes.len() - at < 16 {
+    if bytes.len() - at < SAMPLE {
         return Err(fault_at(Refusal::Cut, at));
     }
-    let row = read_sample(&bytes[at..at + 16]);
+    let row = read_sample(&bytes[at..at + SAMPLE]);
     match Sample::new(row.stamp, row.codes) {
         Ok(sample) => Ok(sample),
         Err(_) => Err(fault_at(Refusal::Range, at)),
@@ -65,7 +66,7 @@ pub impl<'a> Source for RecordSource<'a> as RecordSourceSource {
     fn step(&mut self) {
         let at = self.at;
         if sample_at(self.bytes, at).is_ok() {
-            self.at = at + 16;
+            self.at = at + SAMPLE;
         }
     }
 }

@@ -14,26 +14,45 @@ pub struct Fault {
 /// Why a call is refused. The table of numbers and words stands in specs/Table.antt.
 #[derive(Clone, Copy, PartialEq, Eq, Debug)]
 pub enum Refusal {
+    /// A record ends inside a count or a section.
     Cut,
+    /// Bytes follow the last sample of a record.
     Surplus,
+    /// A rule has not 1 to 32 nodes, or a record has more than 1,000,000 samples.
     Count,
+    /// A row stands for no node at its place.
     Node,
+    /// A rule looks further than 4095 ticks, ahead and back together.
     Span,
+    /// A stamp or a code is too large.
     Range,
+    /// The watch is armed already.
     Armed,
+    /// Lent memory has a length that does not fit, or is not as the watch left it.
     Memory,
+    /// The watch is not armed.
     Idle,
+    /// Every place for samples is held.
     Full,
+    /// The source has ended.
     Dry,
+    /// The stamp is not later than the last one taken.
     Backward,
+    /// The position is not accepted yet.
     Unseen,
+    /// The position is not held any more.
     Gone,
+    /// The oldest untaken position is not settled.
     Open,
+    /// Nothing is untaken.
     Bare,
+    /// The tray has no free place.
     TrayFull,
+    /// The tray has no reading.
     TrayEmpty,
+    /// A figure of the calibrator is out of range.
     Pattern,
-    /// A source's fault keeps its own number and place.
+    /// A source failed: its fault keeps its own number and place.
     Fault(Fault),
 }
 
@@ -45,7 +64,7 @@ pub struct Misfit {
 }
 
 impl Refusal {
-    /// The number by which manuals and other programs know the refusal.
+    /// The number of the refusal. A source's fault has its own.
     pub fn number(self) -> u32
         ensures { λ r. ⌜ r ≡ numberOf self ⌝ }
     {
@@ -83,7 +102,7 @@ impl Refusal {
         }
     }
 
-    /// The word of the refusal.
+    /// The word of the refusal. A source's fault, whose number is its own, is a fault.
     pub fn word(self) -> &'static str
         ensures { λ r. ⌜ now r ≡ wordOf self ⌝ }
     {

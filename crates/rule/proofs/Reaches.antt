@@ -9,6 +9,7 @@ use lib.Seq.{take-all, getD-set-same, getD-set-other}
 use borrow.Author.Count.{below-more}
 use Rattle.std.proofs.shelf.Lists.{getD-take, take-more-set}
 use Rattle.std.proofs.shelf.Sums.{folded-more}
+use Rattle.rule.specs.Limits.{largest-bound}
 use Rattle.rule.specs.Rows.{Fits}
 use Rattle.rule.specs.Tables.{tabled, step, Sound}
 use Rattle.rule.specs.Horizons.{none, horizonOf, lastHorizon}
@@ -30,7 +31,7 @@ horizon-local t k (Since a b l u) h = let p : a < k = omega arith in let q : b <
 abbrev pub Bounded : ℕ → Horizon → Type 0
 Bounded m s = (s .wait ≤ m) × (s .reach ≤ m)
 
-pub horizon-bound : (m : ℕ) (t : List Horizon) (k : ℕ) (n : Node) → Fits k n → ((j : ℕ) → j < k → Bounded m (getD t j none)) → Bounded (m + 4095) (horizonOf t n)
+pub horizon-bound : (m : ℕ) (t : List Horizon) (k : ℕ) (n : Node) → Fits k n → ((j : ℕ) → j < k → Bounded m (getD t j none)) → Bounded (m + largest-bound) (horizonOf t n)
 horizon-bound m t k True h b = (omega arith, omega arith)
 horizon-bound m t k (Level c l) h b = (omega arith, omega arith)
 horizon-bound m t k (Not x) h b = let p = b x (omega arith) in (omega arith, omega arith)
@@ -49,11 +50,11 @@ module _ (t : List Horizon) (ns : List Node) (i : ℕ) (s : Horizon) (sound : So
       ∙ ap (λ u. step horizonOf u (getD ns i True)) inv
       ∙ sym (folded-more (step horizonOf) [] ns i True h)
 
-  pub bound-more : ((j : ℕ) → j < i → Bounded (4095 * i) (getD t j none)) → (j : ℕ) → j < i + 1 → Bounded (4095 * (i + 1)) (getD (set t i s) j none)
+  pub bound-more : ((j : ℕ) → j < i → Bounded (largest-bound * i) (getD t j none)) → (j : ℕ) → j < i + 1 → Bounded (largest-bound * (i + 1)) (getD (set t i s) j none)
   bound-more inv =
       below-more _ _
       (λ j l. let ne : j ≢ i = omega arith in let b = inv j l in rw getD-set-other (omega arith, omega arith))
-      (rw (getD-set-same, e) (let b = horizon-bound (4095 * i) t i (getD ns i True) (sound i h) inv in (omega arith, omega arith)))
+      (rw (getD-set-same, e) (let b = horizon-bound (largest-bound * i) t i (getD ns i True) (sound i h) inv in (omega arith, omega arith)))
 
 pub table-all : (t : List Horizon) (ns : List Node) (i : ℕ) → 0 < length ns → i ≡ length ns → take i t ≡ tabled horizonOf (take i ns) → getD t (length ns - 1) none ≡ lastHorizon ns
 table-all t ns i h e inv =

@@ -1,7 +1,8 @@
 -- How far each node looks, from the nodes before it, as the code works it out. Assumes nothing.
 use mathlib.Core.List.{List}
-use Prim.Native.Nat.{ℕ, _+_, _-_, max}
+use Prim.Native.Nat.{ℕ, _+_, _-_, _*_, max}
 use lib.ListN.{length, getD}
+use Rattle.rule.specs.Limits.{most-nodes, largest-bound}
 use Rattle.rule.specs.Tables.{tabled}
 use Rattle.rule.specs.declared.horizon.Horizon.{Horizon}
 use Rattle.rule.specs.declared.node.Node.{Node}
@@ -9,6 +10,10 @@ use Rattle.rule.specs.declared.node.Node.the-variants.{True, Level, Not, Or, A
 
 abbrev pub none : Horizon
 none = record { wait = 0; reach = 0 }
+
+-- no node of a rule looks further
+abbrev pub farthest : ℕ
+farthest = most-nodes * largest-bound
 
 abbrev pub farther : Horizon → Horizon → Horizon
 farther x y = record { wait = max (x .wait) (y .wait); reach = max (x .reach) (y .reach) }

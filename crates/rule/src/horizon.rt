@@ -2,11 +2,12 @@
 ghost use mathlib.Core.Path.{_≡_};
 ghost use Prim.Native.Nat.{ℕ, _<_, _≤_};
 ghost use lib.ListN.{length, getD};
-ghost use Rattle.rule.specs.Horizons.{none, farther, later, earlier, horizonOf, lastHorizon};
+ghost use Rattle.rule.specs.Horizons.{none, farthest, farther, later, earlier, horizonOf, lastHorizon};
 ghost use Rattle.rule.specs.Limits.{most-nodes};
 ghost use Rattle.rule.specs.Rows.{Fits};
 ghost use Rattle.rule.specs.Tables.{Sound};
 use crate::node::Node;
+use crate::rule::Rule;
 
 /// How far a node looks, in ticks: `wait` ahead of a position, `reach` back of it.
 #[derive(Clone, Copy)]
@@ -26,7 +27,7 @@ fn farther_of(one: Horizon, other: Horizon) -> Horizon
 }
 
 fn looking_ahead(by: u16, of: Horizon) -> Horizon
-    requires { ⌜ of .wait ≤ 1000000 ⌝ }
+    requires { ⌜ of .wait ≤ farthest ⌝ }
     ensures { λ r. ⌜ r ≡ later by of ⌝ }
 {
     Horizon {
@@ -36,7 +37,7 @@ fn looking_ahead(by: u16, of: Horizon) -> Horizon
 }
 
 fn looking_back(by: u16, of: Horizon) -> Horizon
-    requires { ⌜ of .reach ≤ 1000000 ⌝ }
+    requires { ⌜ of .reach ≤ farthest ⌝ }
     ensures { λ r. ⌜ r ≡ earlier by of ⌝ }
 {
     Horizon {
@@ -48,7 +49,7 @@ fn looking_back(by: u16, of: Horizon) -> Horizon
 /// The horizon of a node at place `k`, from those of the nodes before it.
 fn horizon_of(table: &[Horizon], node: Node, k: usize) -> Horizon
     requires { ⌜ Fits k node ⌝ ∗ ⌜ k ≤ length (now table) ⌝ }
-    requires { ⌜ ((j : ℕ) → j < k → (getD (now table) j none .wait ≤ 1000000) × (getD (now table) j none .reach ≤ 1000000)) ⌝ }
+    requires { ⌜ ((j : ℕ) → j < k → (getD (now table) j none .wait ≤ farthest) × (getD (now table) j none .reach ≤ farthest)) ⌝ }
     ensures { λ r. ⌜ r ≡ horizonOf (now (table .entry)) node ⌝ }
 {
     match node {
@@ -85,9 +86,9 @@ fn horizon_of(table: &[Horizon], node: Node, k: usize) -> Horizon
 pub(crate) fn horizon_of_last(nodes: &[Node]) -> Horizon
     requires { ⌜ Sound (now nodes) ⌝ ∗ ⌜ 0 < length (now nodes) ⌝ ∗ ⌜ length (now nodes) ≤ most-nodes ⌝ }
     ensures is { λ r. ⌜ r ≡ lastHorizon (now (nodes .entry)) ⌝ }
-    ensures bound { λ r. ⌜ r .wait ≤ 1000000 ⌝ ∗ ⌜ r .reach ≤ 1000000 ⌝ }
+    ensures bound { λ r. ⌜ r .wait ≤ farthest ⌝ ∗ ⌜ r .reach ≤ farthest ⌝ }
 {
-    let mut table = [Horizon { wait: 0, reach: 0 }; 32];
+    let mut table = [Horizon { wait: 0, reach: 0 }; Rule::MOST_NODES];
     for (i, node) in nodes.iter().enumerate() {
         table[i] = horizon_of(&table, *node, i);
     }

@@ -4,7 +4,8 @@ ghost use Rattle.rule.specs.Rows.{rowOf, Read};
 use scale::Code;
 use std::fmt;
 
-/// A node of a rule. Operands, `first` and `second`, are the numbers of earlier nodes; bounds, `low` and `high`, are in ticks.
+/// A node of a rule. Operands, `first` and `second`, are numbers of nodes, in a rule of earlier ones; bounds, `low` and `high`, are in
+/// ticks.
 #[derive(Clone, Copy)]
 pub enum Node {
     True,
@@ -47,7 +48,7 @@ pub enum Node {
     },
 }
 
-/// The plain row of a node. Fields that its kind does not use are 0.
+/// The plain row of a node, with no promise that a node has it.
 #[derive(Clone, Copy, PartialEq, Eq, Debug)]
 pub struct NodeRow {
     pub kind: u8,
@@ -149,7 +150,7 @@ impl Node {
         }
     }
 
-    /// Its plain row.
+    /// Its plain row. Fields that its kind does not use are 0.
     pub fn row(self) -> NodeRow
         ensures { λ r. ⌜ r ≡ rowOf self ⌝ }
     {

@@ -14,7 +14,7 @@ mod ops;
 /// its last node. No rule can break these limits.
 #[derive(Clone, Copy)]
 pub struct Rule {
-    nodes: [Node; 32],
+    nodes: [Node; Rule::MOST_NODES],
     count: usize,
     horizon: Horizon,
     ghost some: { 0 < count },

@@ -1,6 +1,7 @@
 // The struct stands alone: its ghost fields import each `ghost use` of this file.
 ghost use Prim.Native.Nat.{ℕ, _<_, _≤_};
-ghost use lib.ListN.{getD};
+ghost use lib.ListN.{length, getD};
+ghost use mathlib.Core.Path.{_≡_};
 ghost use Rattle.sample.specs.Limits.{stamp-limit};
 ghost use Rattle.scale.specs.Limits.{largest-code};
 use crate::row::SampleRow;
@@ -12,6 +13,7 @@ mod rows;
 #[derive(Clone, Copy)]
 pub struct Sample {
     row: SampleRow,
+    ghost four: { length (row .codes) ≡ 4 },
     ghost early: { row .stamp < stamp-limit },
     ghost within: { (k : ℕ) → getD (row .codes) k 0 ≤ largest-code },
 }

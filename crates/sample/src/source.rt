@@ -7,7 +7,7 @@ use crate::sample::Sample;
 pub trait Source {
     ghost meaning: { Self → Coming };
 
-    /// The first sample that is still to come or, if there is none, the ending. It changes nothing that is to come: a source may only fill a buffer.
+    /// The first sample that is still to come or, if there is none, the ending. What is to come stays the same; a source may, for example, fill a buffer.
     fn peek(&mut self) -> Result<Sample, Ending>
         ensures answer { λ r. ⌜ shown r ≡ first (meaning (now (self .entry))) ⌝ }
         ensures same { λ _. ⌜ meaning (now (self .exit)) ≡ meaning (now (self .entry)) ⌝ };

@@ -86,7 +86,7 @@ margins = record {
 abbrev pub distance : ℕ → ℕ → ℤ
 distance code level = pos 2 *ℤ (pos code -ℤ pos level) +ℤ pos 1
 
--- a number above the largest code counts as the largest
+-- no code has a number above the largest; here it counts as the largest, so that every reading is a margin
 abbrev nearest : ℕ → ℕ
 nearest n = min n largest-code
 

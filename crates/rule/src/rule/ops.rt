@@ -31,7 +31,8 @@ impl Rule {
         }
     }
 
-    /// The rule of plain rows, refused as count, as node at the first row that is none, or as span.
+    /// The rule of plain rows. Refused as count, at place 0, if there are not 1 to 32; then as node, at the first row that stands for no
+    /// node there; then as span, at the last row.
     pub fn from_rows(rows: &[NodeRow]) -> Result<Rule, Misfit>
         ensures made { λ r. ⌜ Made (now (rows .entry)) r ⌝ }
         ensures exactly { λ r. ⌜ Exactly (now (rows .entry)) r ⌝ }

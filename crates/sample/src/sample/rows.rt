@@ -9,7 +9,7 @@ use refusal::Refusal;
 use scale::Code;
 
 impl Sample {
-    /// The first stamp that is too late for a sample. The limit of stamps stands here and nowhere else.
+    /// The first stamp that is too late for a sample. The code has the limit only here; specs/Limits.antt has it for the contracts.
     pub const STAMP_LIMIT: u64 = 1 << 40;
 
     /// The sample of a stamp and four codes, refused as out of range where the stamp is not below the limit or a code is above the largest.

@@ -7,7 +7,7 @@ use crate::code::Code;
 use refusal::Refusal;
 
 impl Code {
-    /// The largest code, and the largest level. The limit of codes stands here and nowhere else.
+    /// The largest code, and the largest level. The code has the limit only here; specs/Limits.antt has it for the contracts.
     pub const LARGEST: u16 = 4095;
 
     /// The code of a number, refused as out of range where the number is above the largest code.

@@ -1,6 +1,7 @@
 use mathlib.Core.Path.{_≡_, _∙_, ap}
 use mathlib.Core.List.{map}
 use native.Mathlib.Omega.{arith}
+use lib.ListN.{length}
 use borrow.Author.Needs.{needs}
 use Rattle.std.proofs.shelf.Edits.{map-over-more}
 use Rattle.std.proofs.shelf.Lists.{take-all, drop-all}
@@ -19,7 +20,9 @@ codes-clamped : (c : After-min-2) → c .loop-code .code-items ≡ map nearest (
 codes-clamped c = search (needs, take-all, drop-all)
 
 pub ghost-result : need.ghost-result
-ghost-result c = (omega arith, (rw (codes-clamped c) (clamped-within (c .args .row .codes)), tt))
+ghost-result c =
+    let four : length (c .loop-code .code-items) ≡ 4 = search needs in
+    (four, (omega arith, (rw (codes-clamped c) (clamped-within (c .args .row .codes)), tt)))
 
 pub returns : need.returns
 returns c =

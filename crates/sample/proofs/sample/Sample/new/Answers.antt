@@ -5,4 +5,4 @@ use Rattle.sample.proofs.sample.Sample.new.Needs as need
 
 pub ghost-result : need.ghost-result
 ghost-result c =
-    (omega arith, (all-within (c .args .codes) 4 (search needs) (λ k h. c .loop-code .inv k (omega arith)), tt))
+    (search needs, (omega arith, (all-within (c .args .codes) 4 (search needs) (λ k h. c .loop-code .inv k (omega arith)), tt)))
