@@ -8,10 +8,12 @@ use lib.ListN.{length, length-append, length-take}
 use Rattle.std.proofs.shelf.Lists.{length-map}
 use Rattle.std.specs.declared.result.Result.{Result}
 use Rattle.std.specs.declared.result.Result.the-variants.{Ok, Err}
+use Rattle.refusal.specs.Table.{numberOf}
 use Rattle.refusal.specs.declared.Misfit.{Misfit}
 use Rattle.refusal.specs.declared.Refusal.the-variants.{Surplus}
 use Rattle.rule.specs.Limits.{most-nodes}
 use Rattle.rule.specs.Made.{nodesOf, Refused}
+use Rattle.rule.specs.Made as made-why
 use Rattle.rule.specs.Rows.{rowOf}
 use Rattle.rule.specs.declared.node.NodeRow.{NodeRow}
 use Rattle.rule.specs.declared.rule.Rule.{Rule}
@@ -172,3 +174,22 @@ opened bytes rule o h = record { opens = λ _ _ _. refl; refuses = λ m why. abs
 pub tested : (bytes : List ℕ) (before rule : Rule) (a : Result Opened Misfit) → Answered bytes before rule a → Exactly bytes a → Tested bytes a
 tested bytes before rule (Ok o) h e = record { told = (rule, o .samples, h .0); exactly = e }
 tested bytes before rule (Err m) h e = record { told = h .0; exactly = e }
+
+-- no refusal of bytes has the number 0
+rows-numbered : (rows : List NodeRow) (m : Misfit) → Refused rows m → 0 < numberOf (m .refusal)
+rows-numbered rows m (made-why.wrong-count e _) = rw e (omega arith)
+rows-numbered rows m (made-why.no-node _ e _ _ _ _) = rw e (omega arith)
+rows-numbered rows m (made-why.too-far _ e _ _ _ _ _) = rw e (omega arith)
+
+samples-numbered : (place : ℕ) (bytes : List ℕ) (m : Misfit) → No-samples place bytes m → 0 < numberOf (m .refusal)
+samples-numbered place bytes m (no-sample-count e _) = rw e (omega arith)
+samples-numbered place bytes m (wrong-sample-count _ _ e _ _) = rw e (omega arith)
+samples-numbered place bytes m (samples-cut _ _ e _ _ _) = rw e (omega arith)
+samples-numbered place bytes m (more-bytes _ _ e _ _ _) = rw e (omega arith)
+
+pub numbered : (bytes : List ℕ) (m : Misfit) → Broken bytes m → 0 < numberOf (m .refusal)
+numbered bytes m (no-count e _) = rw e (omega arith)
+numbered bytes m (wrong-count _ _ e _ _) = rw e (omega arith)
+numbered bytes m (nodes-cut _ _ e _ _ _ _) = rw e (omega arith)
+numbered bytes m (no-rule rows why _ e _ _ _ r) = rw e (rows-numbered rows why r)
+numbered bytes m (no-samples rule rest _ r) = samples-numbered (after-nodes rule) rest m r

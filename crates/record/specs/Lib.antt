@@ -1,3 +1,4 @@
+pub mod Limits
 pub mod Format
 pub mod Opening
 pub mod Coming

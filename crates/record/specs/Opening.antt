@@ -17,7 +17,7 @@ use Rattle.rule.specs.Made.{nodesOf, Refused}
 use Rattle.rule.specs.Rows.{rowOf}
 use Rattle.rule.specs.declared.node.NodeRow.{NodeRow}
 use Rattle.rule.specs.declared.rule.Rule.{Rule}
-use Rattle.sample.specs.Limits.{most-samples}
+use Rattle.record.specs.Limits.{most-samples}
 use Rattle.record.specs.Format.{one, four, nodes-then, samples-then}
 use Rattle.record.specs.declared.opening.Opened.{Opened}
 

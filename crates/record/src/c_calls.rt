@@ -1,8 +1,6 @@
 // The opening test for programs in C: a byte array is a pointer and a length there. The header is include/comriep.h.
 ghost use mathlib.Core.Path.{_≡_};
-ghost use Prim.Native.Nat.{ℕ};
-ghost use Rattle.rule.specs.declared.rule.Rule.{Rule as AnyRule};
-ghost use Rattle.record.specs.Opening.{Holds, Tested, Number-told, Place-told};
+ghost use Rattle.record.specs.Opening.{Opens, Tested, Number-told, Place-told};
 use crate::opening::Opened;
 use crate::opening::open;
 use refusal::Misfit;
@@ -19,7 +17,8 @@ fn test_record(bytes: &[u8]) -> Result<Opened, Misfit>
 #[unsafe(no_mangle)]
 pub extern "C" fn comriep_record_number(bytes: &[u8]) -> u32
     ensures told { λ r. ⌜ Number-told (now (bytes .entry)) r ⌝ }
-    ensures opens { λ r. ⌜ ((rule : AnyRule) (samples : ℕ) → Holds (now (bytes .entry)) rule samples → r ≡ 0) ⌝ }
+    ensures opens { λ r. ⌜ (Opens (now (bytes .entry)) → r ≡ 0) ⌝ }
+    ensures only { λ r. ⌜ (r ≡ 0 → Opens (now (bytes .entry))) ⌝ }
 {
     match test_record(bytes) {
         Ok(_) => 0,
@@ -31,7 +30,7 @@ pub extern "C" fn comriep_record_number(bytes: &[u8]) -> u32
 #[unsafe(no_mangle)]
 pub extern "C" fn comriep_record_place(bytes: &[u8]) -> u64
     ensures told { λ r. ⌜ Place-told (now (bytes .entry)) r ⌝ }
-    ensures opens { λ r. ⌜ ((rule : AnyRule) (samples : ℕ) → Holds (now (bytes .entry)) rule samples → r ≡ 0) ⌝ }
+    ensures opens { λ r. ⌜ (Opens (now (bytes .entry)) → r ≡ 0) ⌝ }
 {
     match test_record(bytes) {
         Ok(_) => 0,

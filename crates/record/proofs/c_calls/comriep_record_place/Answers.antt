@@ -6,4 +6,7 @@ use Rattle.record.proofs.c_calls.comriep_record_place.Needs as need
 pub returns-in-Err : need.returns-in-Err
 returns-in-Err c =
     let broken = c .in-Err .ensures tt .told in
-    record { told = inr (c .in-Err .misfit, broken, refl); opens = λ rule samples h. absurd (never (c .args .bytes .now) rule samples h (c .in-Err .misfit) broken) }
+    record {
+      told = inr (c .in-Err .misfit, broken, refl);
+      opens = λ o. absurd (never (c .args .bytes .now) (o .0) (o .1) (o .2) (c .in-Err .misfit) broken);
+    }
