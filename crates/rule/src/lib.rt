@@ -6,4 +6,7 @@ mod rule;
 pub use node::Node;
 pub use node::NodeDisplay;
 pub use node::NodeRow;
+pub use node::NodeRowDebug;
+pub use node::NodeRowEq;
+pub use node::NodeRowPartialEq;
 pub use rule::Rule;

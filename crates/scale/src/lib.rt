@@ -12,6 +12,9 @@ pub use margin::Margin;
 pub use margin::MarginScale;
 pub use margin::MarginTest;
 pub use pass_fail::PassFail;
+pub use pass_fail::PassFailDebug;
+pub use pass_fail::PassFailEq;
+pub use pass_fail::PassFailPartialEq;
 pub use pass_fail::PassFailScale;
 pub use pass_fail::PassFailTest;
 
