@@ -1,1 +1,5 @@
 pub mod Formula
+pub mod Trace
+pub mod Values
+pub mod Meaning
+pub mod Theorems
