@@ -5,3 +5,4 @@ pub mod Narrow
 pub mod Shift
 pub mod Forget
 pub mod Lists
+pub mod Computed

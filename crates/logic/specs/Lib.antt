@@ -3,3 +3,4 @@ pub mod Trace
 pub mod Values
 pub mod Meaning
 pub mod Theorems
+pub mod Examples

@@ -1,5 +1,6 @@
 //! The logic of rules: bounded metric temporal logic over sampled signals, with two ends while samples may still come. The
 //! definitions are in specs/; each function here carries one theorem about them in its contract, and does nothing else.
+ghost use Rattle.logic.specs.Examples.{Worked-examples};
 ghost use Rattle.logic.specs.Theorems.{Settles, Narrows, Encloses, Ordered, Stays-settled, Forgets, Can-continue};
 use scale::Scale;
 
@@ -36,4 +37,9 @@ pub fn stays_settled<S: Scale>()
 /// Samples that are more than the reach older than a position may be dropped: its ends stay equal.
 pub fn forgets<S: Scale>()
     ensures { λ _. ⌜ Forgets (S·Scale .ops) ⌝ }
+{}
+
+/// The worked examples, on pass/fail and on margins.
+pub fn worked_examples()
+    ensures { λ _. ⌜ Worked-examples ⌝ }
 {}
