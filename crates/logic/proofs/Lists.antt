@@ -1,12 +1,13 @@
 -- The theorems over lists of samples. Assumes nothing.
 use mathlib.Core.Path.{_≡_, refl, sym, ap, ap₂, _∙_, subst}
 use mathlib.Core.List.{List, [], _∷_, _++_}
-use Prim.Native.Nat.{ℕ, zero, suc, _+_, _-_, _≤_, _<_}
+use Prim.Native.Nat.{ℕ, zero, suc, _+_, _-_, _≤_, _<_, zero-le}
 use native.Mathlib.Nat.{zero-add}
 use native.Mathlib.Decide.{decLt}
 use native.Mathlib.Omega.{arith}
 use lib.ListN.{length, getD, length-append, List·getD-append}
 use lib.Seq.{getD-append-add}
+use Rattle.scale.specs.Limits.{largest-code}
 use Rattle.scale.specs.Laws.{Ops, Laws, Below}
 use Rattle.logic.specs.Trace.{Trace, blank, trace, newest, Rising}
 use Rattle.std.proofs.shelf.Lists.{getD-push}
@@ -70,11 +71,18 @@ module _ {V : Type 0} {O : Ops V} (L : Laws O) where
       let high = antisym L (n .1) (below-trans L (below-of L (sym e)) (below-trans L (n .0) o)) in
       both-ends low high
 
+zeros : (channel : ℕ) → getD (0 ∷ 0 ∷ 0 ∷ 0 ∷ []) channel 0 ≤ largest-code
+zeros zero = zero-le
+zeros (suc zero) = zero-le
+zeros (suc (suc zero)) = zero-le
+zeros (suc (suc (suc zero))) = zero-le
+zeros (suc (suc (suc (suc k)))) = zero-le
+
 -- one sample more, late enough
 pub can-continue : Can-continue
 can-continue φ σ j up p =
     let t = trace σ in
-    let late : SampleRow = record { stamp = newest (trace σ) + suc (wait φ); codes = [] } in
+    let late : SampleRow = record { stamp = newest (trace σ) + suc (wait φ); codes = 0 ∷ 0 ∷ 0 ∷ 0 ∷ [] } in
     let was : (k : ℕ) → k < length σ → getD (σ ++ (late ∷ [])) k blank ≡ getD σ k blank = λ k l. List·getD-append σ (late ∷ []) blank k l in
     let is : getD (σ ++ (late ∷ [])) (length σ) blank ≡ late = getD-push σ late blank (length σ) refl in
     let long : length (σ ++ (late ∷ [])) ≡ length σ + 1 = length-append σ (late ∷ []) in
@@ -94,4 +102,4 @@ can-continue φ σ j up p =
     ap (trace (σ ++ (late ∷ [])) .stamp) (let e : length (σ ++ (late ∷ [])) - 1 ≡ length σ = omega arith in e) ∙ new in
     let h = rising (trace σ) up j (length σ - 1) (omega arith) (omega arith) in
     let g = old j p in
-    (late ∷ [], rises, omega arith)
+    (late ∷ [], (record { four = refl; within = zeros }, tt), rises, omega arith)

@@ -2,8 +2,10 @@
 use mathlib.Core.List.{List, _++_}
 use mathlib.Core.Path.{_≡_}
 use Prim.Native.Nat.{ℕ, _+_, _≤_, _<_}
-use lib.ListN.{length}
+use lib.ListN.{length, getD}
+use Rattle.std.specs.shelf.Lists.{All}
 use Rattle.scale.specs.Laws.{Ops, Below}
+use Rattle.scale.specs.Limits.{largest-code}
 use Rattle.sample.specs.declared.row.SampleRow.{SampleRow}
 use Rattle.logic.specs.Formula.{Formula, wait, reach}
 use Rattle.logic.specs.Meaning.{Ends, plain, ends}
@@ -69,10 +71,15 @@ module _ {V : Type 0} (O : Ops V) where
       ((q : ℕ) → q < length old → trace (old ++ kept) .stamp q + reach A < trace kept .stamp j) →
       ends O read (trace (old ++ kept)) A (length old + j) ≡ ends O read (trace kept) A j
 
--- .. of which there always is one
+-- four codes, none above the largest
+pub record Coded (row : SampleRow) : Type 0 where
+  pub four : length (row .codes) ≡ 4
+  pub within : (channel : ℕ) → getD (row .codes) channel 0 ≤ largest-code
+
+-- .. of which there always is one, of rows that have codes as samples do
 abbrev pub Can-continue : Type 0
 Can-continue =
     (A : Formula) (σ : List SampleRow) (j : ℕ) →
     Rising (trace σ) →
     j < length σ →
-    (more : List SampleRow) × Continues σ more × Waited A (σ ++ more) j
+    (more : List SampleRow) × All Coded more × Continues σ more × Waited A (σ ++ more) j

@@ -1,3 +1,4 @@
+pub mod Entries
 pub mod Reaches
 pub mod Fused
 pub mod Checks

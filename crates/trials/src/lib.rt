@@ -2,6 +2,8 @@
 #[cfg(test)]
 mod calibrators;
 #[cfg(test)]
+mod evaluations;
+#[cfg(test)]
 mod helpers;
 #[cfg(test)]
 mod openings;
