@@ -25,7 +25,7 @@ place C m p = m * C + p % C
 abbrev pub cell-at : List Cell → ℕ → ℕ → ℕ → Cell
 cell-at cells C m p = getD cells (place C m p) no-cell
 
--- the sample in a place: a figure above its limit counts as the limit
+-- the sample in a place, with each figure that is too large cut down to its limit
 abbrev pub row-in : List SampleRow → ℕ → SampleRow
 row-in rows i = clamped (getD rows i blank)
 

@@ -14,13 +14,13 @@ pub struct Fault {
 /// Why a call is refused. The table of numbers and words stands in specs/Table.antt.
 #[derive(Clone, Copy, PartialEq, Eq, Debug)]
 pub enum Refusal {
-    /// A record ends inside a count or a section.
+    /// The bytes of a record stop in the middle of a count or a section.
     Cut,
-    /// Bytes follow the last sample of a record.
+    /// There are bytes after the last sample of a record.
     Surplus,
     /// A rule has not 1 to 32 nodes, or a record has more than 1,000,000 samples.
     Count,
-    /// A row stands for no node at its place.
+    /// No node could have this row at its place.
     Node,
     /// A rule looks further than 4095 ticks, ahead and back together.
     Span,
@@ -32,23 +32,23 @@ pub enum Refusal {
     Memory,
     /// The watch is not armed.
     Idle,
-    /// Every place for samples is held.
+    /// No place is left for another sample.
     Full,
-    /// The source has ended.
+    /// The source has nothing more to give.
     Dry,
-    /// The stamp is not later than the last one taken.
+    /// The stamp does not come after the last one taken.
     Backward,
-    /// The position is not accepted yet.
+    /// No draw has come to the position yet.
     Unseen,
-    /// The position is not held any more.
+    /// The watch has let the position go.
     Gone,
-    /// The oldest untaken position is not settled.
+    /// The oldest position still to be taken is unsettled.
     Open,
-    /// Nothing is untaken.
+    /// There is no position to take.
     Bare,
-    /// The tray has no free place.
+    /// There is no room on the tray.
     TrayFull,
-    /// The tray has no reading.
+    /// There is nothing on the tray.
     TrayEmpty,
     /// A figure of the calibrator is out of range.
     Pattern,

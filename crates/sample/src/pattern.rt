@@ -1,5 +1,5 @@
-/// A square wave to test a setup with: sample k, for k from 0 to `count` − 1, has the stamp `first` + k. Channel 0 has the
-/// high code where k divided by `half_period`, rounded down, is even, and else the low code; the other channels have 0.
+/// A square wave to test a setup with: `count` samples, one for each tick from `first` on. Channel 0 starts high and changes level every
+/// `half_period` samples; the other channels stay 0.
 #[derive(Clone, Copy)]
 pub struct Pattern {
     /// The stamp of sample 0, below `Sample::STAMP_LIMIT`; that of the last sample is below it too.

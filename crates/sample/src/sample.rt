@@ -9,7 +9,8 @@ use crate::row::SampleRow;
 mod figures;
 mod rows;
 
-/// A sample: a stamp in ticks, 0 to 2^40 − 1, and four codes, for channels 0 to 3. No sample can hold anything else.
+/// One sample of a capture: its time in ticks, below 2^40, and the code of each of four channels. The type admits no figure that is out
+/// of range.
 #[derive(Clone, Copy)]
 pub struct Sample {
     row: SampleRow,

@@ -53,6 +53,6 @@ pass-fail = record {
   restored = verdict;
 }
 
--- a code passes exactly when it is at least the level
+-- pass unless the code is below the level
 abbrev pub pass-fail-reading : ℕ → ℕ → PassFail
 pass-fail-reading code level = cond (leb level code) Pass Fail

@@ -67,7 +67,7 @@ pub impl Scale for PassFail as PassFailScale {
     }
 }
 
-/// A code passes exactly when it is at least the level.
+/// A code passes unless it is below the level.
 pub impl TestScale for PassFail as PassFailTest {
     ghost reading = { pass-fail-reading };
 

@@ -36,7 +36,7 @@ fn level(channel: u8) -> NodeRow {
     node(1, channel, 0, 2048, 0)
 }
 
-/// (not p) or (true until[0,3] q)
+/// Wherever p is, q is within 3 ticks.
 fn response() -> [NodeRow; 6] {
     [
         level(0),

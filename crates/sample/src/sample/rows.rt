@@ -29,7 +29,7 @@ impl Sample {
         })
     }
 
-    /// Reads a row back: a figure above its limit counts as the limit. A row that was a sample's gives that sample again.
+    /// Reads a row back, with each figure that is too large cut down to its limit. A row that was a sample's gives that sample again.
     pub fn from_row(row: SampleRow) -> Sample
         ensures clamps { λ r. ⌜ r .row ≡ clamped row ⌝ }
         ensures again { λ r. ⌜ ((sample : Checked) → row ≡ sample .row → r ≡ sample) ⌝ }

@@ -4,8 +4,8 @@ use crate::Scale;
 use crate::TestScale;
 use crate::margin::Margin;
 
-/// `or` is the greater margin and `and` the lesser, turning over changes the sign, and a margin above 0 passes. It is kept as its own
-/// number; a number that no margin has restores the worst.
+/// Join and meet are maximum and minimum, turning over negates, and positive margins pass. A margin is stored as its number; a number
+/// that no margin has gives the worst.
 pub impl Scale for Margin as MarginScale {
     ghost ops = { margins };
 
@@ -65,7 +65,7 @@ pub impl Scale for Margin as MarginScale {
     }
 }
 
-/// A code reads as 2 × (code − level) + 1: its distance to the level in half codes, and one more, so that the level itself passes.
+/// Twice the distance of the code from the level, and one more, so that the level itself passes.
 pub impl TestScale for Margin as MarginTest {
     ghost reading = { margin-reading };
 
