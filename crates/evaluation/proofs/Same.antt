@@ -18,7 +18,9 @@ use Rattle.rule.specs.Tables.{tabled, Sound, formulaOf, formulaAt}
 use Rattle.rule.specs.declared.node.Node.{Node}
 use Rattle.rule.specs.declared.node.Node.the-variants.{True, Level, Not, Or, And, Next, Yesterday, Until, Since}
 use Rattle.rule.proofs.Entries.{entry}
+use Rattle.evaluation.specs.Memory.{kept-ends}
 use Rattle.evaluation.specs.Nodes.{node-ends}
+use Rattle.evaluation.specs.declared.memory.Cell.{Cell}
 
 module _ {V : Type 0} where
   two : {a b c d : V} → a ≡ b → c ≡ d → _≡_ {A = Ends V} (record { low = a; high = c }) (record { low = b; high = d })
@@ -87,3 +89,7 @@ module _ {V : Type 0} (O : Ops V) (read : ℕ → ℕ → V) (σ : Trace) where
   node-tree ns m j sound h =
       node-formula (tabled formulaOf ns) (getD ns m True) j
       ∙ ap (λ φ. ends O read σ φ j) (sym (entry formulaOf formula-local ns sound m truth h))
+
+-- a node may be given in other words
+pub at-node : {V : Type 0} (o : Ops V) (σ : Trace) (read : ℕ → ℕ → V) (E : ℕ → ℕ → Ends V) (j : ℕ) {c : Cell} {n n′ : Node} → n′ ≡ n → c ≡ kept-ends o (node-ends o σ read E n j) → c ≡ kept-ends o (node-ends o σ read E n′ j)
+at-node o σ read E j e h = h ∙ ap (λ n. kept-ends o (node-ends o σ read E n j)) (sym e)
