@@ -1,5 +1,7 @@
 //! The logic of rules: bounded metric temporal logic over sampled signals, with two ends while samples may still come. The
 //! definitions are in specs/; each function here carries one theorem about them in its contract, and does nothing else.
+#![tactic(auto)]
+
 ghost use Rattle.logic.specs.Examples.{WorkedExamples};
 ghost use Rattle.logic.specs.Theorems.{Settles, Narrows, Encloses, Ordered, StaysSettled, Forgets, CanContinue};
 

@@ -1,4 +1,6 @@
 //! Records: a rule and the samples of a capture, as bytes.
+#![tactic(auto)]
+
 mod c_calls;
 mod format;
 mod opening;

@@ -1,4 +1,6 @@
 //! Every refusal of the product: its number, its word, and the place that it may speak of.
+#![tactic(auto)]
+
 ghost use Rattle.std.specs.Prelude.{◌≡◌, Some};
 ghost use Rattle.refusal.specs.Table.{number_of, word_of, place_of};
 

@@ -1,4 +1,6 @@
 //! Samples, the sources that they come from, and a source for testing a setup.
+#![tactic(auto)]
+
 mod calibrator;
 mod ending;
 mod pattern;

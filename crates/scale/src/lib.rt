@@ -1,4 +1,6 @@
 //! Scales: the kinds of value that a rule can have, and the codes that are read on them.
+#![tactic(auto)]
+
 ghost use Rattle.std.specs.Prelude.{◌≡◌, ℕ};
 ghost use Rattle.scale.specs.Laws.{Ops, Laws};
 

@@ -1,4 +1,6 @@
 //! Reads a record from standard input and says what is in it, or why it is refused.
+#![tactic(auto)]
+
 use record::{Opened, RecordSource, open};
 use refusal::Misfit;
 use rule::Rule;

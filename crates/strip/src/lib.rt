@@ -1,4 +1,6 @@
 //! A strip: a ring of stamped records over memory that the caller lends. First in is first out, and freed places are used again.
+#![tactic(auto)]
+
 mod reading;
 mod stamped;
 mod strip;

@@ -1,4 +1,6 @@
 //! Trials: the library on the edges of its limits, and on records that are damaged. What is expected is written out by hand.
+#![tactic(auto)]
+
 #[cfg(test)]
 mod calibrators;
 #[cfg(test)]

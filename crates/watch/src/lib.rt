@@ -1,4 +1,6 @@
 //! The watch: it tests one rule on every sample that it draws from a source, in memory that the caller lends.
+#![tactic(auto)]
+
 mod cells;
 mod refresh;
 mod stopped;

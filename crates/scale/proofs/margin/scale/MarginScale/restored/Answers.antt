@@ -9,7 +9,7 @@ use Rattle.scale.proofs.margin.scale.MarginScale.restored.Goals.{then-size+then-
 pub returns : goal.returns
 returns c =
     let z = c.args.number in
-    let size : c.unsigned-abs-size.result ≡ nat_abs z = c.unsigned-abs-size.ensures.value ∙ ap nat_abs (to_z-of_z _ _ c.ranges.number) in
+    let size : c.unsigned_abs-size.result ≡ nat_abs z = c.unsigned_abs-size.ensures.value ∙ ap nat_abs (to_z-of_z _ _ c.ranges.number) in
     same_value _ _ (elim c.if-size.branch [
       | then-size+then-size-eq1 w ↦
           let own : Fit z = record { odd = omega arith; near = omega arith } in
