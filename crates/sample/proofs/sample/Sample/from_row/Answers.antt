@@ -12,17 +12,19 @@ pub loop-code-preserved : goal.loop-code-preserved
 loop-code-preserved c = search (rules, map_over_more nearest)
 
 -- the loop has gone over every code
-codes_clamped : (c : After-min-2) → c.loop-code.code_items ≡ map nearest c.args.row.codes
+codes_clamped : (c : After-min-2) → c.loop-code.code-items ≡ map nearest c.args.row.codes
 codes_clamped c = search (rules, take_all, drop_all)
 
-pub invariant-of-result : goal.invariant-of-result
-invariant-of-result c =
-    let four : length c.loop-code.code_items ≡ 4 = search rules in
-    (four, (omega arith, (rw (codes_clamped c) (clamped_within c.args.row.codes), tt)))
+pub invariant_of-result : goal.invariant_of-result
+invariant_of-result c = record {
+  four = search rules;
+  early = omega arith;
+  within = rw (codes_clamped c) (clamped_within c.args.row.codes);
+}
 
 pub returns : goal.returns
 returns c =
-    let nearest-row : ◌≡◌ {A = SampleRow} (record { stamp = c.min-2.result; codes = c.loop-code.code_items }) (clamped c.args.row) =
+    let nearest-row : ◌≡◌ {A = SampleRow} (record { stamp = c.min-2.result; codes = c.loop-code.code-items }) (clamped c.args.row) =
     λ i. record { stamp = c.min-2.ensures i; codes = codes_clamped (goal.at.returns c).After-min-2 i } in
     record {
       clamps = nearest-row;
