@@ -7,13 +7,13 @@ use Rattle.rule.proofs.Checks.{Reads, reads_more, reads_sound, reads_rows}
 use Rattle.rule.proofs.Exact.{refused, made}
 use Rattle.rule.proofs.Fused.{last_horizon_lem}
 use Rattle.rule.proofs.rule.Rule.from_rows.Goals as goal
-use Rattle.rule.proofs.rule.Rule.from_rows.Goals.{then-is-empty-via-then-is-empty, then-is-empty-via-else-is-empty+then-rows-gt-MOST-NODES}
+use Rattle.rule.proofs.rule.Rule.from_rows.Goals.{then-is_empty-via-then-is_empty, then-is_empty-via-else-is_empty+then-rows-gt-MOST_NODES}
 
-pub returns-then-is-empty : goal.returns-then-is-empty
-returns-then-is-empty c =
-    let why = wrong_count refl (elim c.then-is-empty.branch [
-      | then-is-empty-via-then-is-empty w ↦ inl (eqb-true _ _ (sym w.if-is-empty.ensures))
-      | then-is-empty-via-else-is-empty+then-rows-gt-MOST-NODES w ↦ inr w.if-rows-gt-MOST-NODES.true
+pub returns-then-is_empty : goal.returns-then-is_empty
+returns-then-is_empty c =
+    let why = wrong_count refl (elim c.then-is_empty.branch [
+      | then-is_empty-via-then-is_empty w ↦ inl (eqb-true _ _ (sym w.if-is_empty.ensures))
+      | then-is_empty-via-else-is_empty+then-rows-gt-MOST_NODES w ↦ inr w.if-rows-gt-MOST_NODES.true
     ]) in
     record { made = why; exactly = refused _ _ why }
 
@@ -26,32 +26,40 @@ returns-in-None c =
 pub loop-i-preserved : goal.loop-i-preserved
 loop-i-preserved c = (length-set _ _ _ ∙ c.loop-i.invariant.0, reads_more _ _ _ _ (omega arith) c.loop-i.invariant.1 c.in-Some.ensures)
 
-pub horizon-of-last-horizon-requires : goal.horizon-of-last-horizon-requires
-horizon-of-last-horizon-requires c =
+pub horizon_of_last-horizon-requires : goal.horizon_of_last-horizon-requires
+horizon_of_last-horizon-requires c =
     let rows = c.args.rows.now in
-    let some = false-eqb _ _ c.if-is-empty.ensures in
+    let some = false-eqb _ _ c.if-is_empty.ensures in
     let len = length-take (length rows - 0) c.loop-i.nodes in
     (reads_sound rows c.loop-i.nodes (length rows - 0) (omega arith) (omega arith) (λ k h. c.loop-i.invariant.1 k (omega arith)), (omega arith, omega arith))
 
-pub returns-then-horizon-gt-LARGEST-SPAN : goal.returns-then-horizon-gt-LARGEST-SPAN
-returns-then-horizon-gt-LARGEST-SPAN c =
+pub returns-then-horizon-gt-LARGEST_SPAN : goal.returns-then-horizon-gt-LARGEST_SPAN
+returns-then-horizon-gt-LARGEST_SPAN c =
     let rows = c.args.rows.now in
-    let some = false-eqb _ _ c.if-is-empty.ensures in
+    let some = false-eqb _ _ c.if-is_empty.ensures in
     let n = length rows - 0 in
     let all : (k : ℕ) → k < length rows → Reads rows c.loop-i.nodes k = λ k h. c.loop-i.invariant.1 k (omega arith) in
-    let far = rw (c.horizon-of-last-horizon.ensures.is ∙ last_horizon_lem (take n c.loop-i.nodes)) at c.if-horizon-gt-LARGEST-SPAN.true in
+    let far = rw (c.horizon_of_last-horizon.ensures.is ∙ last_horizon_lem (take n c.loop-i.nodes)) at c.if-horizon-gt-LARGEST_SPAN.true in
     let why = too_far (take n c.loop-i.nodes) refl (omega arith) (omega arith) (reads_rows rows c.loop-i.nodes n (omega arith) (omega arith) all) (reads_sound rows c.loop-i.nodes n (omega arith) (omega arith) all) far in
     record { made = why; exactly = refused _ _ why }
 
-pub invariant-of-result : goal.invariant-of-result
-invariant-of-result c =
+pub invariant_of-result : goal.invariant_of-result
+invariant_of-result c =
     let rows = c.args.rows.now in
     let ns = c.loop-i.nodes in
-    let some = false-eqb _ _ c.if-is-empty.ensures in
+    let some = false-eqb _ _ c.if-is_empty.ensures in
     let e : length rows - 0 ≡ length rows = omega arith in
-    let far : c.horizon-of-last-horizon.result ≡ _ = c.horizon-of-last-horizon.ensures.is ∙ ap (λ n. last_horizon (take n ns)) e ∙ last_horizon_lem (take (length rows) ns) in
+    let far : c.horizon_of_last-horizon.result ≡ _ = c.horizon_of_last-horizon.ensures.is ∙ ap (λ n. last_horizon (take n ns)) e ∙ last_horizon_lem (take (length rows) ns) in
     let sound = reads_sound rows ns (length rows) refl (omega arith) (λ k h. c.loop-i.invariant.1 k (omega arith)) in
-    (omega arith, (omega arith, (omega arith, (sound, (ap (λ (x : Horizon). x.wait) far, (ap (λ (x : Horizon). x.reach) far, (c.if-horizon-gt-LARGEST-SPAN.false, tt)))))))
+    record {
+      some = omega arith;
+      held = omega arith;
+      few = omega arith;
+      sound = sound;
+      waits = ap (λ (x : Horizon). x.wait) far;
+      reaches = ap (λ (x : Horizon). x.reach) far;
+      near = c.if-horizon-gt-LARGEST_SPAN.false;
+    }
 
 pub returns : goal.returns
 returns c =
