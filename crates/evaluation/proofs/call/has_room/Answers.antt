@@ -28,4 +28,4 @@ returns c =
     let some : 0 < c.args.places = omega arith in
     let asked : c.args.window.first + c.args.window.count < 18446744073709551616 → Asked c.args.places c.args.cells c.args.window.first c.args.window.count c.args.from c.args.nodes = λ near.
     record { some = some; held = omega arith; begun = omega arith; fits = (le-div_iff_mul-le some).0 (omega arith); near = near } in
-    (λ e. asked (sum_told _ _ _ c.checked-add.ensures (sym c.is-some.ensures ∙ e)), λ a. c.is-some.ensures ∙ sum_found _ _ _ c.checked-add.ensures a.near)
+    (λ e. asked (sum_told _ _ _ c.checked_add.ensures (sym c.is_some.ensures ∙ e)), λ a. c.is_some.ensures ∙ sum_found _ _ _ c.checked_add.ensures a.near)

@@ -11,8 +11,8 @@ use Rattle.evaluation.proofs.nodes.scratch.Goals as goal
 pub loop-m-init : goal.loop-m-init
 loop-m-init g c = held_none g.S.Scale.ops g.S.TestScale.reading c.args.rows.now c.args.window.first c.args.window.count c.requires.room.some g.met.S.Scale.lawful c.args.nodes.now c.requires.sound c.args.cells.now
 
-pub node-row-requires : goal.node-row-requires
-node-row-requires g c =
+pub node_row-requires : goal.node_row-requires
+node_row-requires g c =
     let room = c.requires.room in
     let lt : c.loop-m.m < length c.args.nodes.now = omega arith in
     let fits = room_fits c.requires.room c.loop-m.m lt in
@@ -29,8 +29,8 @@ loop-m-preserved g c =
     let lt : c.loop-m.m < length c.args.nodes.now = omega arith in
     let read = get_or_read c.args.nodes.now c.loop-m.m c.index-nodes-m.result lt c.index-nodes-m.is True in
     held_more g.S.Scale.ops g.S.TestScale.reading c.args.rows.now c.args.window.first c.args.window.count c.requires.room.some g.met.S.Scale.lawful c.args.nodes.now c.requires.sound
-    c.args.cells.now c.loop-m.cells c.node-row.new.cells c.loop-m.m lt c.loop-m.invariant
-    (written_of g.S.Scale.ops g.S.TestScale.reading c.args.rows.now c.args.window.first c.args.window.count c.requires.room.some _ _ _ _ read c.node-row.ensures)
+    c.args.cells.now c.loop-m.cells c.node_row.new.cells c.loop-m.m lt c.loop-m.invariant
+    (written_of g.S.Scale.ops g.S.TestScale.reading c.args.rows.now c.args.window.first c.args.window.count c.requires.room.some _ _ _ _ read c.node_row.ensures)
 
 pub returns : goal.returns
 returns g c =

@@ -7,23 +7,23 @@ use Rattle.evaluation.proofs.Runs.{run_none, run_more, run_stops}
 use Rattle.evaluation.proofs.search.seek.Goals as goal
 
 pub loop-i-init : goal.loop-i-init
-loop-i-init g c = (refl, c.requires.start, run_none g.S.Scale.ops _ _ _ c.worst-found.ensures c.best-so-far.ensures)
+loop-i-init g c = (refl, c.requires.start, run_none g.S.Scale.ops _ _ _ c.worst-found.ensures c.best-so_far.ensures)
 
 pub loop-i-preserved : goal.loop-i-preserved
 loop-i-preserved g c =
     let o = g.S.Scale.ops in
     let rows = c.args.rows.now in
     let inv = c.loop-i.invariant in
-    let here : c.stamp-in-stamp.result ≡ stamp_on o rows c.args.cells.now c.args.rings c.args.start c.args.side c.loop-i.-i =
-    c.stamp-in-stamp.ensures ∙ ap (λ p. (row_in rows p).stamp) inv.0 in (
-      c.place-after-place.ensures.is ∙ ap (next_place (length rows)) inv.0 ∙ ap (ahead (length rows) c.args.start) (sym (add-one c.loop-i.-i)),
-      c.place-after-place.ensures.within,
+    let here : c.stamp_in-stamp.result ≡ stamp_on o rows c.args.cells.now c.args.rings c.args.start c.args.side c.loop-i.-i =
+    c.stamp_in-stamp.ensures ∙ ap (λ p. (row_in rows p).stamp) inv.0 in (
+      c.place_after-place.ensures.is ∙ ap (next_place (length rows)) inv.0 ∙ ap (ahead (length rows) c.args.start) (sym (add-one c.loop-i.-i)),
+      c.place_after-place.ensures.within,
       run_more o _ _ _ c.loop-i.-i _ inv.2
-          (in_time c.args.earliest c.args.latest c.stamp-in-stamp.result _ here c.if-stamp-latest.false)
-          (c.end-in-left.ensures ∙ ap (λ p. side_of o c.args.side c.args.cells.now (c.args.rings.a + p)) inv.0)
-          (c.end-in-right.ensures ∙ ap (λ p. side_of o c.args.side c.args.cells.now (c.args.rings.b + p)) inv.0)
-          c.or-where-found.ensures
-          c.and-so-far.ensures,
+          (in_time c.args.earliest c.args.latest c.stamp_in-stamp.result _ here c.if-stamp-latest.false)
+          (c.end_in-left.ensures ∙ ap (λ p. side_of o c.args.side c.args.cells.now (c.args.rings.a + p)) inv.0)
+          (c.end_in-right.ensures ∙ ap (λ p. side_of o c.args.side c.args.cells.now (c.args.rings.b + p)) inv.0)
+          c.or_where-found.ensures
+          c.and-so_far.ensures,
     )
 
 pub returns-then-stamp-latest : goal.returns-then-stamp-latest
@@ -31,8 +31,8 @@ returns-then-stamp-latest g c =
     let o = g.S.Scale.ops in
     let rows = c.args.rows.now in
     let inv = c.loop-i.invariant in
-    let here : c.stamp-in-stamp.result ≡ stamp_on o rows c.args.cells.now c.args.rings c.args.start c.args.side c.loop-i.-i =
-    c.stamp-in-stamp.ensures ∙ ap (λ p. (row_in rows p).stamp) inv.0 in
+    let here : c.stamp_in-stamp.result ≡ stamp_on o rows c.args.cells.now c.args.rings c.args.start c.args.side c.loop-i.-i =
+    c.stamp_in-stamp.ensures ∙ ap (λ p. (row_in rows p).stamp) inv.0 in
     let late = c.if-stamp-latest.true in
     record {
       found = λ up.

@@ -5,6 +5,6 @@ use Rattle.record.proofs.format.read_sample.Goals as goal
 
 pub returns : goal.returns
 returns c = record {
-  spells = sample_parts (eight c.read-u64.result) (two c.read-u16.result) (two c.read-u16-2.result) (two c.read-u16-3.result) (two c.read-u16-4.result) c.args.bytes.now c.requires c.read-u64.ensures c.read-u16.ensures c.read-u16-2.ensures c.read-u16-3.ensures c.read-u16-4.ensures;
+  spells = sample_parts (eight c.read_u64.result) (two c.read_u16.result) (two c.read_u16-2.result) (two c.read_u16-3.result) (two c.read_u16-4.result) c.args.bytes.now c.requires c.read_u64.ensures c.read_u16.ensures c.read_u16-2.ensures c.read_u16-3.ensures c.read_u16-4.ensures;
   four = refl;
 }

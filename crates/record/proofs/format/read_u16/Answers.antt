@@ -3,4 +3,4 @@ use Rattle.record.proofs.Bytes.{read_back}
 use Rattle.record.proofs.format.read_u16.Goals as goal
 
 pub returns : goal.returns
-returns c = read_back 1 c.from-le-bytes.result c.args.bytes.now c.requires refl (search rules, (search rules, tt)) (omega arith)
+returns c = read_back 1 c.from_le_bytes.result c.args.bytes.now c.requires refl (search rules, (search rules, tt)) (omega arith)

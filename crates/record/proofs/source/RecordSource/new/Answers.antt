@@ -8,5 +8,5 @@ use Rattle.record.proofs.source.RecordSource.new.Goals as goal
 
 pub returns : goal.returns
 returns c =
-    let there : Comes c.args.bytes.now c.args.start (coming_from c.args.bytes.now c.min-at.result) = rw c.min-at.ensures (comes c.args.bytes.now (bytes_of c.args.bytes.now (λ i. let h = c.type-inv.bytes i in omega arith)) c.args.start) in
+    let there : Comes c.args.bytes.now c.args.start (coming_from c.args.bytes.now c.min-at.result) = rw c.min-at.ensures (comes c.args.bytes.now (bytes_of c.args.bytes.now (λ i. let h = c.type_inv.bytes i in omega arith)) c.args.start) in
     record { comes = there; only = λ coming other. sole c.args.bytes.now c.args.start _ coming there other }

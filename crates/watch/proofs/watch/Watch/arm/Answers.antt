@@ -6,11 +6,11 @@ use Rattle.watch.proofs.watch.Watch.arm.Goals as goal
 pub returns-then-self : goal.returns-then-self
 returns-then-self g c = λ tray coming. arm_armed g.met.S.Scale.lawful g.S.TestScale.reading c.args.self.now (ring_of c.args.strip.now) c.args.cells.now tray coming c.args.rule.now c.if-self.true
 
-pub returns-then-not-can-arm : goal.returns-then-not-can-arm
-returns-then-not-can-arm g c = λ tray coming. arm_unfit g.met.S.Scale.lawful g.S.TestScale.reading c.args.self.now (ring_of c.args.strip.now) c.args.cells.now tray coming c.args.rule.now c.if-self.false (sym c.if-not-can-arm.ensures)
+pub returns-then-not-can_arm : goal.returns-then-not-can_arm
+returns-then-not-can_arm g c = λ tray coming. arm_unfit g.met.S.Scale.lawful g.S.TestScale.reading c.args.self.now (ring_of c.args.strip.now) c.args.cells.now tray coming c.args.rule.now c.if-self.false (sym c.if-not-can_arm.ensures)
 
 pub returns : goal.returns
-returns g c = λ tray coming. arm_done g.met.S.Scale.lawful g.S.TestScale.reading c.args.self.now (ring_of c.args.strip.now) c.args.cells.now tray coming c.args.rule.now _ c.if-self.false (sym c.if-not-can-arm.ensures) record {
+returns g c = λ tray coming. arm_done g.met.S.Scale.lawful g.S.TestScale.reading c.args.self.now (ring_of c.args.strip.now) c.args.cells.now tray coming c.args.rule.now _ c.if-self.false (sym c.if-not-can_arm.ensures) record {
   says = refl;
   armed_now = refl;
   rule_is = refl;

@@ -11,35 +11,35 @@ use Rattle.watch.proofs.Drawn.{draw_late, draw_kept}
 use Rattle.watch.proofs.Promised.{same_promise}
 use Rattle.watch.proofs.watch.Watch.draw.Goals as goal
 
-pub returns-in-err-sample : goal.returns-in-err-sample
-returns-in-err-sample g c =
-    let p = err_from_is_err_and c.from-residual.result c.from-residual.ensures.1 in
+pub returns-in_err-sample : goal.returns-in_err-sample
+returns-in_err-sample g c =
+    let p = err_from_is_err_and c.from_residual.result c.from_residual.ensures.1 in
     let meaning = g.Q.Source.meaning in
     rw (p.1, p.2) record {
       same = refl;
       call = λ tray.
           same_promise g.met.S.Scale.lawful g.S.TestScale.reading Draw
           (memory c.args.self.now (ring_of c.args.strip.now) c.args.cells.now tray (meaning c.args.source.now))
-          (memory c.args.self.now (ring_of c.args.strip.now) c.args.cells.now tray (meaning c.next-sample.new.source))
-          _ _ (c.in-err-sample.ensures.answer tray) refl
-          (ap (memory c.args.self.now (ring_of c.args.strip.now) c.args.cells.now tray) c.next-sample.ensures.same);
+          (memory c.args.self.now (ring_of c.args.strip.now) c.args.cells.now tray (meaning c.next_sample.new.source))
+          _ _ (c.in_err-sample.ensures.answer tray) refl
+          (ap (memory c.args.self.now (ring_of c.args.strip.now) c.args.cells.now tray) c.next_sample.ensures.same);
     }
 
-pub returns-in-err-drawn : goal.returns-in-err-drawn
-returns-in-err-drawn g c =
-    let p = err_from_is_err_and c.from-residual-in-err-drawn.result c.from-residual-in-err-drawn.ensures.1 in
+pub returns-in_err-drawn : goal.returns-in_err-drawn
+returns-in_err-drawn g c =
+    let p = err_from_is_err_and c.from_residual-in_err-drawn.result c.from_residual-in_err-drawn.ensures.1 in
     let meaning = g.Q.Source.meaning in
-    let late = c.in-err-drawn.ensures.answer in
+    let late = c.in_err-drawn.ensures.answer in
     rw (p.1, p.2) record {
       same = c.accept.ensures.same;
       call = λ tray.
           same_promise g.met.S.Scale.lawful g.S.TestScale.reading Draw
           (memory c.args.self.now (ring_of c.args.strip.now) c.args.cells.now tray (meaning c.args.source.now))
-          (memory c.accept.new.self (ring_of c.accept.new.strip) c.accept.new.cells tray (meaning c.next-sample.new.source))
+          (memory c.accept.new.self (ring_of c.accept.new.strip) c.accept.new.cells tray (meaning c.next_sample.new.source))
           _ (watch_refuses Backward)
-          (draw_late g.met.S.Scale.lawful g.S.TestScale.reading c.args.self.now (ring_of c.args.strip.now) c.args.cells.now (meaning c.args.source.now) c.in-ok-sample.sample.row c.in-ok-sample.ensures.answer tray late.1)
+          (draw_late g.met.S.Scale.lawful g.S.TestScale.reading c.args.self.now (ring_of c.args.strip.now) c.args.cells.now (meaning c.args.source.now) c.in_ok-sample.sample.row c.in_ok-sample.ensures.answer tray late.1)
           (ap (λ r. answer.Refused (watch_refuses r)) late.0)
-          (λ i. memory (late.2 i) (late.3 i) (late.4 i) tray (c.next-sample.ensures.same i));
+          (λ i. memory (late.2 i) (late.3 i) (late.4 i) tray (c.next_sample.ensures.same i));
     }
 
 pub returns : goal.returns
@@ -48,8 +48,8 @@ returns g c =
     record {
       same = c.accept.ensures.same;
       call = λ tray.
-          draw_kept g.met.S.Scale.lawful g.S.TestScale.reading c.args.self.now (ring_of c.args.strip.now) c.args.cells.now (meaning c.args.source.now) c.in-ok-sample.sample.row c.in-ok-sample.ensures.answer tray c.accept.new.self (ring_of c.accept.new.strip) c.accept.new.cells (meaning c.step.new.self) c.in-ok-drawn.drawn c.in-ok-drawn.ensures.answer
-          (c.step.ensures ∙ ap rest c.next-sample.ensures.same)
+          draw_kept g.met.S.Scale.lawful g.S.TestScale.reading c.args.self.now (ring_of c.args.strip.now) c.args.cells.now (meaning c.args.source.now) c.in_ok-sample.sample.row c.in_ok-sample.ensures.answer tray c.accept.new.self (ring_of c.accept.new.strip) c.accept.new.cells (meaning c.step.new.self) c.in_ok-drawn.drawn c.in_ok-drawn.ensures.answer
+          (c.step.ensures ∙ ap rest c.next_sample.ensures.same)
           c.args.strip.now.fits
-          (record { early = c.in-ok-sample.sample.early; within = c.in-ok-sample.sample.within });
+          (record { early = c.in_ok-sample.sample.early; within = c.in_ok-sample.sample.within });
     }
