@@ -20,7 +20,7 @@ fn inside(from: u64, to: u64, bounds: Bounds) -> bool
 
 /// The value where the test holds, else worst.
 fn when_of<S: Scale>(test: bool, value: S) -> S
-    ensures { result ≡ (if test then value else ops.worst) }
+    ensures { result ≡ (if test then value else S.ops.worst) }
 {
     if test { value } else { S::worst() }
 }
@@ -45,7 +45,7 @@ pub(crate) fn level_cell<S: TestScale>(
 
 pub(crate) fn not_cell<S: Scale>(cells: &[Cell], place: usize) -> Cell
     requires { place < length cells.now }
-    ensures { result ≡ kept_ends ops (record { low = ops.turned (side_of ops High cells.now place); high = ops.turned (side_of ops Low cells.now place) }) }
+    ensures { result ≡ kept_ends S.ops (record { low = S.ops.turned (side_of S.ops High cells.now place); high = S.ops.turned (side_of S.ops Low cells.now place) }) }
 {
     let below: S = end_in(cells, place, End::Low);
     let above: S = end_in(cells, place, End::High);
@@ -55,7 +55,7 @@ pub(crate) fn not_cell<S: Scale>(cells: &[Cell], place: usize) -> Cell
 pub(crate) fn or_cell<S: Scale>(cells: &[Cell], a: usize, b: usize) -> Cell
     requires a { a < length cells.now }
     requires b { b < length cells.now }
-    ensures { result ≡ kept_ends ops (record { low = ops.or (side_of ops Low cells.now a) (side_of ops Low cells.now b); high = ops.or (side_of ops High cells.now a) (side_of ops High cells.now b) }) }
+    ensures { result ≡ kept_ends S.ops (record { low = S.ops.or (side_of S.ops Low cells.now a) (side_of S.ops Low cells.now b); high = S.ops.or (side_of S.ops High cells.now a) (side_of S.ops High cells.now b) }) }
 {
     let below: S = end_in::<S>(cells, a, End::Low).or(end_in(cells, b, End::Low));
     let above: S = end_in::<S>(cells, a, End::High).or(end_in(cells, b, End::High));
@@ -65,7 +65,7 @@ pub(crate) fn or_cell<S: Scale>(cells: &[Cell], a: usize, b: usize) -> Cell
 pub(crate) fn and_cell<S: Scale>(cells: &[Cell], a: usize, b: usize) -> Cell
     requires a { a < length cells.now }
     requires b { b < length cells.now }
-    ensures { result ≡ kept_ends ops (record { low = ops.and (side_of ops Low cells.now a) (side_of ops Low cells.now b); high = ops.and (side_of ops High cells.now a) (side_of ops High cells.now b) }) }
+    ensures { result ≡ kept_ends S.ops (record { low = S.ops.and (side_of S.ops Low cells.now a) (side_of S.ops Low cells.now b); high = S.ops.and (side_of S.ops High cells.now a) (side_of S.ops High cells.now b) }) }
 {
     let below: S = end_in::<S>(cells, a, End::Low).and(end_in(cells, b, End::Low));
     let above: S = end_in::<S>(cells, a, End::High).and(end_in(cells, b, End::High));
@@ -82,7 +82,7 @@ pub(crate) fn next_cell<S: Scale>(
 ) -> Cell
     requires room { Room rows.now cells.now window.first window.count (a + 1) }
     requires j { j < window.count }
-    ensures { result ≡ kept_ends ops (next_ends ops (positions rows.now window.first window.count) bounds.low bounds.high (ends_in ops cells.now (length rows.now) window.first a) j) }
+    ensures { result ≡ kept_ends S.ops (next_ends S.ops (positions rows.now window.first window.count) bounds.low bounds.high (ends_in S.ops cells.now (length rows.now) window.first a) j) }
 {
     let size = rows.len();
     let k = j + 1;
@@ -111,7 +111,7 @@ pub(crate) fn yesterday_cell<S: Scale>(
 ) -> Cell
     requires room { Room rows.now cells.now window.first window.count (a + 1) }
     requires j { j < window.count }
-    ensures { result ≡ kept_ends ops (yesterday_ends ops (positions rows.now window.first window.count) bounds.low bounds.high (ends_in ops cells.now (length rows.now) window.first a) j) }
+    ensures { result ≡ kept_ends S.ops (yesterday_ends S.ops (positions rows.now window.first window.count) bounds.low bounds.high (ends_in S.ops cells.now (length rows.now) window.first a) j) }
 {
     let size = rows.len();
     if j == 0 {
@@ -139,7 +139,7 @@ pub(crate) fn until_cell<S: Scale>(
     requires a { Room rows.now cells.now window.first window.count (a + 1) }
     requires b { Room rows.now cells.now window.first window.count (b + 1) }
     requires j { j < window.count }
-    ensures { Climbs (positions rows.now window.first window.count) → result ≡ kept_ends ops (until_ends ops (positions rows.now window.first window.count) bounds.low bounds.high (ends_in ops cells.now (length rows.now) window.first a) (ends_in ops cells.now (length rows.now) window.first b) j) }
+    ensures { Climbs (positions rows.now window.first window.count) → result ≡ kept_ends S.ops (until_ends S.ops (positions rows.now window.first window.count) bounds.low bounds.high (ends_in S.ops cells.now (length rows.now) window.first a) (ends_in S.ops cells.now (length rows.now) window.first b) j) }
 {
     let size = rows.len();
     let rings = Rings {
@@ -182,7 +182,7 @@ pub(crate) fn since_cell<S: Scale>(
     requires a { Room rows.now cells.now window.first window.count (a + 1) }
     requires b { Room rows.now cells.now window.first window.count (b + 1) }
     requires j { j < window.count }
-    ensures { Climbs (positions rows.now window.first window.count) → result ≡ kept_ends ops (since_ends ops (positions rows.now window.first window.count) bounds.low bounds.high (ends_in ops cells.now (length rows.now) window.first a) (ends_in ops cells.now (length rows.now) window.first b) j) }
+    ensures { Climbs (positions rows.now window.first window.count) → result ≡ kept_ends S.ops (since_ends S.ops (positions rows.now window.first window.count) bounds.low bounds.high (ends_in S.ops cells.now (length rows.now) window.first a) (ends_in S.ops cells.now (length rows.now) window.first b) j) }
 {
     let size = rows.len();
     let rings = Rings {

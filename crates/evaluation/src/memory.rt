@@ -66,7 +66,7 @@ pub(crate) fn stamp_in(rows: &[SampleRow], place: usize) -> u64
 
 /// One of the two ends in a cell.
 pub(crate) fn end_of<S: Scale>(cell: Cell, side: End) -> S
-    ensures { result ≡ ops.restored (end side cell) }
+    ensures { result ≡ S.ops.restored (end side cell) }
 {
     match side {
         End::Low => S::restored(cell.low),
@@ -77,14 +77,14 @@ pub(crate) fn end_of<S: Scale>(cell: Cell, side: End) -> S
 /// One of the two ends in a place.
 pub(crate) fn end_in<S: Scale>(cells: &[Cell], place: usize, side: End) -> S
     requires { place < length cells.now }
-    ensures { result ≡ ops.restored (end side (slice_index_or cells.now place no_cell)) }
+    ensures { result ≡ S.ops.restored (end side (slice_index_or cells.now place no_cell)) }
 {
     end_of(cells[place], side)
 }
 
 /// The cell of two ends.
 pub(crate) fn cell_of<S: Scale>(low: S, high: S) -> Cell
-    ensures { result ≡ kept_ends ops (record { low = low; high = high }) }
+    ensures { result ≡ kept_ends S.ops (record { low = low; high = high }) }
 {
     Cell {
         low: low.kept(),

@@ -23,7 +23,7 @@ pub(crate) struct Bounds {
 
 /// What was found, and where the test holds also the right operand with all of the left so far.
 fn or_where<S: Scale>(test: bool, found: S, so_far: S, right: S) -> S
-    ensures { result ≡ (if test then ops.or found (ops.and so_far right) else found) }
+    ensures { result ≡ (if test then S.ops.or found (S.ops.and so_far right) else found) }
 {
     if test {
         found.or(so_far.and(right))
@@ -47,7 +47,7 @@ pub(crate) fn seek<S: Scale>(
     requires start { start < length rows.now }
     requires a { rings.a + length rows.now ≤ length cells.now }
     requires b { rings.b + length rows.now ≤ length cells.now }
-    ensures { Sought ops rows.now cells.now rings start side earliest latest count result }
+    ensures { Sought S.ops rows.now cells.now rings start side earliest latest count result }
 {
     let size = rows.len();
     let mut place = start;
@@ -81,7 +81,7 @@ pub(crate) fn seek_back<S: Scale>(
     requires start { start < length rows.now }
     requires a { rings.a + length rows.now ≤ length cells.now }
     requires b { rings.b + length rows.now ≤ length cells.now }
-    ensures { SoughtBack ops rows.now cells.now rings start side bounds.low bounds.high (row_in rows.now start).stamp count result }
+    ensures { SoughtBack S.ops rows.now cells.now rings start side bounds.low bounds.high (row_in rows.now start).stamp count result }
 {
     let size = rows.len();
     let to = stamp_in(rows, start);

@@ -53,7 +53,7 @@ pub(crate) fn cell_at(cells: &[Cell], ring: CellRing, position: u64) -> Cell
 
 /// Whether the two ends in a cell are the same.
 pub(crate) fn is_settled<S: Scale>(cell: Cell) -> bool
-    ensures { result ≡ same_ends ops cell }
+    ensures { result ≡ same_ends S.ops cell }
 {
     let low: S = S::restored(cell.low);
     low.same(S::restored(cell.high))
@@ -61,7 +61,7 @@ pub(crate) fn is_settled<S: Scale>(cell: Cell) -> bool
 
 /// Whether the high end in a cell does not pass.
 fn is_failing<S: Scale>(cell: Cell) -> bool
-    ensures { result ≡ fails ops cell }
+    ensures { result ≡ fails S.ops cell }
 {
     let high: S = S::restored(cell.high);
     !high.passes()
@@ -71,7 +71,7 @@ fn is_failing<S: Scale>(cell: Cell) -> bool
 pub(crate) fn count_settled<S: Scale>(cells: &[Cell], ring: CellRing, low: u64, high: u64) -> u64
     requires some { 0 < ring.places }
     requires fits { ring.begin + ring.places ≤ length cells.now }
-    ensures { result ≡ many (λ k. same_ends ops (cell_in cells.now ring.begin ring.places (low + k))) (high - low) }
+    ensures { result ≡ many (λ k. same_ends S.ops (cell_in cells.now ring.begin ring.places (low + k))) (high - low) }
 {
     let mut count = 0;
     for position in low..high {
@@ -91,7 +91,7 @@ pub(crate) fn first_failing<S: Scale>(
 ) -> Option<u64>
     requires some { low < high → 0 < ring.places }
     requires fits { ring.begin + ring.places ≤ length cells.now }
-    ensures { result ≡ lowest (λ p. fails ops (cell_in cells.now ring.begin ring.places p)) low (high - low) }
+    ensures { result ≡ lowest (λ p. fails S.ops (cell_in cells.now ring.begin ring.places p)) low (high - low) }
 {
     for position in low..high {
         if is_failing::<S>(cell_at(cells, ring, position)) {

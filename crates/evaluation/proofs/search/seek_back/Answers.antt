@@ -14,11 +14,11 @@ loop-i-preserved g c =
     let o = g.S.Scale.ops in
     let rows = c.args.rows.now in
     let inv = c.loop-i.invariant in
-    let here : c.stamp_in-stamp.result ≡ stamp_back o rows c.args.cells.now c.args.rings c.args.start c.args.side c.loop-i.-i =
+    let here : c.stamp_in-stamp.result ≡ stamp_back o rows c.args.cells.now c.args.rings c.args.start c.args.side c.loop-i._i =
     c.stamp_in-stamp.ensures ∙ ap (λ p. (row_in rows p).stamp) inv.0 in (
-      c.place_before-place.ensures.is ∙ ap (earlier_place (length rows)) inv.0 ∙ ap (back (length rows) c.args.start) (sym (add-one c.loop-i.-i)),
+      c.place_before-place.ensures.is ∙ ap (earlier_place (length rows)) inv.0 ∙ ap (back (length rows) c.args.start) (sym (add-one c.loop-i._i)),
       c.place_before-place.ensures.within,
-      run_more o _ _ _ c.loop-i.-i _ inv.2
+      run_more o _ _ _ c.loop-i._i _ inv.2
           (in_time_back _ _ c.args.bounds.low c.args.bounds.high c.stamp_in-to.result c.stamp_in-stamp.result _ (omega arith) (omega arith) here c.if-to-stamp.false)
           (c.end_in-held.ensures ∙ ap (λ p. side_of o c.args.side c.args.cells.now (c.args.rings.a + p)) inv.0)
           (c.end_in-witness.ensures ∙ ap (λ p. side_of o c.args.side c.args.cells.now (c.args.rings.b + p)) inv.0)
@@ -31,16 +31,16 @@ returns-then-to-stamp g c = λ up.
     let o = g.S.Scale.ops in
     let rows = c.args.rows.now in
     let inv = c.loop-i.invariant in
-    let here : c.stamp_in-stamp.result ≡ stamp_back o rows c.args.cells.now c.args.rings c.args.start c.args.side c.loop-i.-i =
+    let here : c.stamp_in-stamp.result ≡ stamp_back o rows c.args.cells.now c.args.rings c.args.start c.args.side c.loop-i._i =
     c.stamp_in-stamp.ensures ∙ ap (λ p. (row_in rows p).stamp) inv.0 in
     let early = c.if-to-stamp.true in
     ap (λ p. p.found) inv.2
-    ∙ run_stops o _ _ _ c.loop-i.-i c.args.count (omega arith) (λ i p q. let u = up c.loop-i.-i i p q in too_early c.args.bounds.low c.args.bounds.high c.stamp_in-to.result _ (omega arith))
+    ∙ run_stops o _ _ _ c.loop-i._i c.args.count (omega arith) (λ i p q. let u = up c.loop-i._i i p q in too_early c.args.bounds.low c.args.bounds.high c.stamp_in-to.result _ (omega arith))
     ∙ ap (λ to. (pass_back o rows c.args.cells.now c.args.rings c.args.start c.args.side c.args.bounds.low c.args.bounds.high to c.args.count).found) c.stamp_in-to.ensures
 
 pub returns : goal.returns
 returns g c = λ up.
-    let e : c.loop-i.-i ≡ c.args.count = omega arith in
+    let e : c.loop-i._i ≡ c.args.count = omega arith in
     let o = g.S.Scale.ops in
     ap (λ p. p.found) c.loop-i.invariant.2
     ∙ ap₂ (λ to n. (pass_back o c.args.rows.now c.args.cells.now c.args.rings c.args.start c.args.side c.args.bounds.low c.args.bounds.high to n).found) c.stamp_in-to.ensures e
