@@ -2,11 +2,11 @@
 use Rattle.std.proofs.Common.{◌≡◌, ℕ, zero, suc, ◌+◌, ◌-◌, ◌*◌, ◌%◌, ◌<◌, ◌≤◌, Bool, true, false, cond, ◌&&◌, ltb, leb, List, length, sym, refl, ap, ◌∙◌, ap₂, add-zero, add-one, arith, ltb-true, lt-ltb}
 use Rattle.scale.specs.Laws.{Ops, Laws}
 use Rattle.sample.specs.declared.row.SampleRow.{SampleRow}
-use Rattle.logic.specs.Meaning.{Ends, until_at, since_at, yesterday_at}
+use Rattle.logic.specs.Meaning.{until_at, since_at, yesterday_at}
 use Rattle.logic.specs.Trace.{Trace, newest, within}
 use Rattle.logic.specs.Values.{when, all}
 use Rattle.evaluation.specs.Memory.{Climbs, ahead, back, row_in, side_of, side_in, window, kept_ends}
-use Rattle.evaluation.specs.Pass.{Pass, run}
+use Rattle.evaluation.specs.Pass.{run}
 use Rattle.evaluation.specs.Searches.{Sought, SoughtBack, stamp_on, stamp_back, pass_on, pass_back}
 use Rattle.evaluation.specs.declared.memory.Cell.{Cell}
 use Rattle.evaluation.specs.declared.memory.End.{End}

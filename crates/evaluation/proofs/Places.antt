@@ -1,5 +1,5 @@
 -- Places in the memory. Assumes nothing.
-use Rattle.std.proofs.Common.{◌≡◌, ℕ, zero, suc, ◌+◌, ◌-◌, ◌*◌, ◌/◌, ◌%◌, ◌<◌, ◌≤◌, ◌≢◌, List, length, sym, refl, ap, ◌∙◌, ap₂, mul-le-mul_right, mod-lt, add-mul, mul-le-mul_left, arith}
+use Rattle.std.proofs.Common.{◌≡◌, ℕ, ◌+◌, ◌*◌, ◌/◌, ◌%◌, ◌<◌, ◌≤◌, ◌≢◌, List, length, mul-le-mul_right, mod-lt, add-mul, mul-le-mul_left, arith}
 use native.Mathlib.Nat.{div-add-mod}
 use native.Mathlib.Decide.{dec_lt}
 use Rattle.evaluation.specs.Memory.{Room, place}

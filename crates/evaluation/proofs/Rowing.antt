@@ -1,8 +1,8 @@
 -- One write more in a row, and one row more. Assumes nothing.
-use Rattle.std.proofs.Common.{◌≡◌, ℕ, zero, suc, ◌+◌, ◌-◌, ◌*◌, ◌%◌, ◌<◌, ◌≤◌, min, ◌≢◌, List, length, get_or, set, sym, refl, ap, ◌∙◌, subst, ap₂, ⊎_elim, arith}
+use Rattle.std.proofs.Common.{◌≡◌, ℕ, ◌+◌, ◌-◌, ◌<◌, ◌≤◌, ◌≢◌, List, length, get_or, set, sym, refl, ap, ◌∙◌, subst, ap₂, ⊎_elim, arith}
 use Rattle.std.proofs.lemmas.List.{get_or-set_same, get_or-set_other}
 use Rattle.std.proofs.lemmas.Bool.{cases_eq}
-use Rattle.logic.specs.Meaning.{Ends, ends}
+use Rattle.logic.specs.Meaning.{ends}
 use Rattle.scale.specs.Laws.{Ops, Laws}
 use Rattle.rule.specs.Rows.{Fits}
 use Rattle.rule.specs.Tables.{Sound}
@@ -10,7 +10,7 @@ use Rattle.rule.specs.declared.node.Node.{Node}
 use Rattle.rule.specs.declared.node.Node.TheVariants.{True}
 use Rattle.evaluation.specs.Memory.{Climbs, no_cell, place, cell_at, window, ends_in, kept_ends}
 use Rattle.rule.specs.Tables.{formula_at}
-use Rattle.evaluation.specs.Nodes.{node_ends, node_cell, true_cell, Written, Held, Evaluated}
+use Rattle.evaluation.specs.Nodes.{node_cell, true_cell, Written, Held, Evaluated}
 use Rattle.evaluation.specs.declared.memory.Cell.{Cell}
 use Rattle.sample.specs.declared.row.SampleRow.{SampleRow}
 use Rattle.evaluation.proofs.Places.{place_apart, place_earlier}

@@ -1,9 +1,9 @@
 -- What a node's ends rest on, and that they are the ends of its formula. Assumes nothing.
-use Rattle.std.proofs.Common.{◌≡◌, ℕ, zero, suc, ◌+◌, ◌-◌, ◌<◌, ◌≤◌, Bool, true, false, cond, T, ltb, leb, List, length, get_or, take, sym, refl, ap, ◌∙◌, ap₂, arith, ltb→lt}
+use Rattle.std.proofs.Common.{◌≡◌, ℕ, suc, ◌<◌, T, ltb, List, length, get_or, take, sym, refl, ap, ◌∙◌, ap₂, arith, ltb→lt}
 use Rattle.std.proofs.lemmas.List.{get_or-take}
 use Rattle.scale.specs.Laws.{Ops}
-use Rattle.logic.specs.Values.{when, all}
-use Rattle.logic.specs.Trace.{Trace, newest, within}
+use Rattle.logic.specs.Values.{when}
+use Rattle.logic.specs.Trace.{Trace}
 use Rattle.logic.specs.Formula.{Formula, truth}
 use Rattle.logic.specs.Meaning.{Ends, ends}
 use Rattle.logic.proofs.Rows.{equal_kept, when_rel, cond_rel, all_rel, until_rel, since_rel, yesterday_rel}

@@ -1,5 +1,5 @@
 -- The two ends of a connective from those of its operands. Assumes nothing.
-use Rattle.std.specs.Prelude.{ℕ, suc, ◌+◌, ◌-◌, Bool, cond, nat_le, nat_lt}
+use Rattle.std.specs.Prelude.{ℕ, suc, ◌+◌, ◌-◌, cond, nat_le, nat_lt}
 use Rattle.scale.specs.Laws.{Ops}
 use Rattle.logic.specs.Values.{when, all}
 use Rattle.logic.specs.Trace.{Trace, newest, within}

@@ -1,5 +1,5 @@
 -- How lent memory is read: rows of samples and cells of two ends, both in rings. Assumes nothing.
-use Rattle.std.specs.Prelude.{◌≡◌, ℕ, zero, suc, ◌+◌, ◌-◌, ◌*◌, ◌%◌, ◌^◌, ◌<◌, ◌≤◌, cond, List, length, ℤ, pos, ◌==◌, slice_index, slice_index_or}
+use Rattle.std.specs.Prelude.{ℕ, zero, suc, ◌+◌, ◌-◌, ◌*◌, ◌%◌, ◌^◌, ◌<◌, ◌≤◌, cond, List, length, ℤ, pos, ◌==◌, slice_index, slice_index_or}
 use Rattle.scale.specs.Laws.{Ops}
 use Rattle.sample.specs.Rows.{clamped}
 use Rattle.sample.specs.declared.row.SampleRow.{SampleRow}

@@ -1,5 +1,5 @@
 -- One pass over a ring, from a place on, as the code makes it. Assumes nothing.
-use Rattle.std.specs.Prelude.{◌≡◌, ℕ, ◌+◌, ◌-◌, ◌<◌, ◌≤◌, ◌&&◌, List, length, nat_le}
+use Rattle.std.specs.Prelude.{◌≡◌, ℕ, ◌+◌, ◌<◌, ◌≤◌, ◌&&◌, List, length, nat_le}
 use Rattle.scale.specs.Laws.{Ops}
 use Rattle.sample.specs.declared.row.SampleRow.{SampleRow}
 use Rattle.evaluation.specs.Memory.{row_in, side_of, ahead, back}

@@ -1,11 +1,10 @@
 -- What lies farther back than the reach may be left out. Assumes nothing.
-use Rattle.std.proofs.Common.{◌≡◌, ℕ, zero, suc, ◌+◌, ◌-◌, ◌<◌, ◌≤◌, max, Bool, true, false, cond, T, ltb, leb, sym, refl, ap, ◌∙◌, subst, ap₂, add-suc, arith, le→leb, ltb→lt, lt→ltb, leb→le}
-use Rattle.scale.specs.Laws.{Ops, Laws, Below}
-use Rattle.logic.specs.Values.{when, any, all}
-use Rattle.logic.specs.Trace.{Trace, newest, Rising, within}
+use Rattle.std.proofs.Common.{◌≡◌, ℕ, suc, ◌+◌, ◌-◌, ◌<◌, ◌≤◌, max, Bool, false, T, ltb, refl, ap, ◌∙◌, ap₂, add-suc, arith, ltb→lt}
+use Rattle.scale.specs.Laws.{Ops, Laws}
+use Rattle.logic.specs.Trace.{Trace, newest, within}
 use Rattle.logic.specs.Formula.{Formula, truth, level, neg, either, both, next, yesterday, until, since, reach}
-use Rattle.logic.specs.Meaning.{Ends, ends, until_at}
-use Rattle.logic.proofs.Rows.{Kept, equal_kept, until_rel, since_rel, yesterday_rel, all_rel, when_rel, when_rel₂, cond_rel}
+use Rattle.logic.specs.Meaning.{ends}
+use Rattle.logic.proofs.Rows.{equal_kept, until_rel, since_rel, yesterday_rel, all_rel, when_rel, when_rel₂, cond_rel}
 use Rattle.logic.proofs.Shift.{until_shift, since_shift, yesterday_shift, all_shift}
 use Rattle.logic.proofs.Windows.{gap, none_within, lt_shift}
 

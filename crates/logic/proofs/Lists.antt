@@ -1,13 +1,13 @@
 -- The theorems over lists of samples. Assumes nothing.
-use Rattle.std.proofs.Common.{◌≡◌, ℕ, zero, suc, ◌+◌, ◌-◌, ◌<◌, ◌≤◌, List, [], ◌∷◌, ◌++◌, length, get_or, sym, refl, ap, ◌∙◌, subst, ap₂, zero-le, zero-add, arith, length-append, get_or-append-add}
+use Rattle.std.proofs.Common.{◌≡◌, ℕ, zero, suc, ◌+◌, ◌-◌, ◌<◌, ◌≤◌, List, [], ◌∷◌, ◌++◌, length, get_or, sym, refl, ap, ◌∙◌, zero-le, zero-add, arith, length-append, get_or-append-add}
 use native.Mathlib.Decide.{dec_lt}
 use lib.ListN.{get_or-append}
 use Rattle.scale.specs.Limits.{largest_code}
-use Rattle.scale.specs.Laws.{Ops, Laws, Below}
-use Rattle.logic.specs.Trace.{Trace, blank, trace, newest, Rising}
+use Rattle.scale.specs.Laws.{Ops, Laws}
+use Rattle.logic.specs.Trace.{blank, trace, newest, Rising}
 use Rattle.std.proofs.lemmas.List.{get_or_push}
-use Rattle.logic.specs.Formula.{Formula, wait}
-use Rattle.logic.specs.Meaning.{Ends, ends}
+use Rattle.logic.specs.Formula.{wait}
+use Rattle.logic.specs.Meaning.{Ends}
 use Rattle.sample.specs.declared.row.SampleRow.{SampleRow}
 use Rattle.logic.specs.Theorems.{Narrows, Encloses, Forgets, StaysSettled, CanContinue}
 use Rattle.logic.proofs.Windows.{rising}

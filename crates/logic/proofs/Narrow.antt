@@ -1,13 +1,13 @@
 -- More samples narrow the ends, and the low end is below the high end. Assumes nothing.
-use Rattle.std.proofs.Common.{◌≡◌, ℕ, zero, suc, ◌+◌, ◌-◌, ◌<◌, ◌≤◌, max, Bool, true, false, cond, T, ltb, leb, sym, refl, ap, ◌∙◌, subst, ap₂, arith, le→leb, ltb→lt, lt→ltb, leb→le}
+use Rattle.std.proofs.Common.{◌≡◌, ℕ, suc, ◌+◌, ◌-◌, ◌<◌, ◌≤◌, Bool, T, ltb, leb, refl, arith, le→leb, ltb→lt, lt→ltb}
 use Rattle.scale.specs.Laws.{Ops, Laws, Below}
-use Rattle.logic.specs.Values.{when, any, all}
+use Rattle.logic.specs.Values.{when, all}
 use Rattle.logic.specs.Trace.{Trace, newest, Rising, within}
-use Rattle.logic.specs.Formula.{Formula, truth, level, neg, either, both, next, yesterday, until, since, wait}
-use Rattle.logic.specs.Meaning.{Ends, plain, ends, until_at}
+use Rattle.logic.specs.Formula.{Formula, truth, level, neg, either, both, next, yesterday, until, since}
+use Rattle.logic.specs.Meaning.{Ends, ends, until_at}
 use Rattle.scale.proofs.Lattice.{below_refl, below_trans, below_best, worst_below, or_left, or_right, or_both, or_mono, and_mono, turn_mono}
-use Rattle.logic.proofs.Rows.{Kept, below_kept, until_rel, since_rel, yesterday_rel, all_rel, when_rel, cond_rel, cond_step, when_below, below_when, until_longer, until_upto, all_shorter}
-use Rattle.logic.proofs.Windows.{gap, rising, not_lt}
+use Rattle.logic.proofs.Rows.{below_kept, until_rel, since_rel, yesterday_rel, all_rel, when_rel, cond_rel, cond_step, when_below, below_when, until_longer, until_upto, all_shorter}
+use Rattle.logic.proofs.Windows.{gap, rising}
 
 -- the first n samples
 abbrev pub first : ℕ → Trace → Trace

@@ -1,9 +1,9 @@
 -- What holds of rows of values, term by term. Assumes nothing.
-use Rattle.std.proofs.Common.{◌≡◌, ℕ, zero, suc, ◌+◌, ◌-◌, ◌<◌, ◌≤◌, Bool, true, false, cond, T, sym, refl, ap, ◌∙◌, subst, ap₂, add-zero, add-suc, arith}
+use Rattle.std.proofs.Common.{◌≡◌, ℕ, zero, suc, ◌+◌, ◌-◌, ◌<◌, ◌≤◌, Bool, true, false, cond, T, refl, subst, ap₂, add-zero, add-suc, arith}
 use Rattle.scale.specs.Laws.{Ops, Laws, Below}
 use Rattle.logic.specs.Values.{when, any, all}
 use Rattle.logic.specs.Meaning.{until_at, since_at, yesterday_at}
-use Rattle.scale.proofs.Lattice.{below_refl, below_trans, or_mono, and_mono, or_left, or_right, or_both, and_left, worst_below}
+use Rattle.scale.proofs.Lattice.{below_refl, below_trans, or_mono, and_mono, or_left, or_both, and_left, worst_below}
 
 -- a relation that or and and keep
 pub record Kept {V : Type 0} (O : Ops V) (R : V → V → Type 0) : Type 0 where

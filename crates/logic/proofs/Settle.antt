@@ -1,12 +1,11 @@
 -- The ends meet once the wait is over. Assumes nothing.
-use Rattle.std.proofs.Common.{◌≡◌, ℕ, zero, suc, ◌+◌, ◌-◌, ◌<◌, ◌≤◌, max, Bool, true, false, cond, T, ltb, leb, sym, refl, ap, ◌∙◌, subst, ap₂, arith, ltb→lt, leb→le}
-use Rattle.scale.specs.Laws.{Ops, Laws, Below}
-use Rattle.logic.specs.Values.{when, any, all}
+use Rattle.std.proofs.Common.{◌≡◌, ℕ, suc, ◌+◌, ◌-◌, ◌<◌, ◌≤◌, T, ltb, leb, refl, ap, ◌∙◌, ap₂, arith, ltb→lt, leb→le}
+use Rattle.scale.specs.Laws.{Ops, Laws}
 use Rattle.logic.specs.Trace.{Trace, newest, Rising, within}
 use Rattle.logic.specs.Formula.{Formula, truth, level, neg, either, both, next, yesterday, until, since, wait}
-use Rattle.logic.specs.Meaning.{Ends, plain, ends, until_at}
+use Rattle.logic.specs.Meaning.{plain, ends}
 use Rattle.scale.proofs.Lattice.{or-worst}
-use Rattle.logic.proofs.Rows.{Kept, equal_kept, until_rel, since_rel, yesterday_rel, when_rel, cond_rel, when_off}
+use Rattle.logic.proofs.Rows.{equal_kept, until_rel, since_rel, yesterday_rel, when_rel, cond_rel, when_off}
 use Rattle.logic.proofs.Windows.{gap, rising, not_lt}
 
 module _ {V : Type 0} {O : Ops V} (L : Laws O) (read : ℕ → ℕ → V) (σ : Trace) (up : Rising σ) where

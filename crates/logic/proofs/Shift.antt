@@ -1,5 +1,5 @@
 -- Rows that begin d positions later. Assumes nothing.
-use Rattle.std.proofs.Common.{◌≡◌, ℕ, zero, suc, ◌+◌, ◌-◌, ◌<◌, ◌≤◌, Bool, true, false, cond, sym, refl, ap, ◌∙◌, subst, ap₂, add-zero, add_assoc, add-suc, zero-add, arith}
+use Rattle.std.proofs.Common.{◌≡◌, ℕ, zero, suc, ◌+◌, ◌-◌, ◌<◌, Bool, false, refl, ap, ◌∙◌, ap₂, add-zero, add_assoc, add-suc, arith}
 use Rattle.scale.specs.Laws.{Ops, Laws}
 use Rattle.logic.specs.Values.{when, any, all}
 use Rattle.logic.specs.Meaning.{until_at, since_at, yesterday_at}

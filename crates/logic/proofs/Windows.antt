@@ -1,8 +1,8 @@
 -- Windows and rising stamps. Assumes nothing.
-use Rattle.std.proofs.Common.{◌≡◌, ℕ, zero, suc, ◌+◌, ◌-◌, ◌<◌, ◌≤◌, Bool, true, false, ◌&&◌, T, ltb, leb, ◌⊎◌, sym, refl, ap, ◌∙◌, subst, ap₂, inl, inr, le_refl, arith, le→leb, lt→ltb, leb→le}
+use Rattle.std.proofs.Common.{◌≡◌, ℕ, ◌+◌, ◌<◌, ◌≤◌, Bool, true, false, ◌&&◌, T, ltb, leb, sym, refl, subst, le_refl, arith, lt→ltb, leb→le}
 use native.Mathlib.Decide.{dec_lt}
 use Rattle.std.proofs.lemmas.Bool.Decides.{nat_tests}
-use Rattle.logic.specs.Trace.{Trace, newest, Rising, within}
+use Rattle.logic.specs.Trace.{Trace, Rising, within}
 
 and_T : (a b : Bool) → T (a && b) → T a × T b
 and_T true true t = (tt, tt)

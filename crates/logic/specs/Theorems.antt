@@ -5,8 +5,8 @@ use Rattle.scale.specs.Laws.{Ops, Below}
 use Rattle.scale.specs.Limits.{largest_code}
 use Rattle.sample.specs.declared.row.SampleRow.{SampleRow}
 use Rattle.logic.specs.Formula.{Formula, wait, reach}
-use Rattle.logic.specs.Meaning.{Ends, plain, ends}
-use Rattle.logic.specs.Trace.{Trace, trace, newest, Rising}
+use Rattle.logic.specs.Meaning.{plain, ends}
+use Rattle.logic.specs.Trace.{trace, newest, Rising}
 
 -- σ and then more is a lawful continuation of σ: stamps rise all along
 abbrev pub Continues : List SampleRow → List SampleRow → Type 0

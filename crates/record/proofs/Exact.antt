@@ -1,5 +1,5 @@
 -- A record is refused by none of the tests, and other bytes by one. Assumes nothing.
-use Rattle.std.proofs.Common.{◌≡◌, ℕ, suc, ◌+◌, ◌*◌, ◌/◌, ◌%◌, ◌<◌, ◌≤◌, ◌⊎◌, List, [], ◌∷◌, ◌++◌, length, Ok, Err, Result, sym, refl, ap, ◌∙◌, subst, inl, inr, arith, length-append, length-take}
+use Rattle.std.proofs.Common.{◌≡◌, ℕ, ◌+◌, ◌*◌, ◌/◌, ◌%◌, ◌<◌, ◌≤◌, ◌⊎◌, List, [], ◌∷◌, ◌++◌, length, Ok, Err, Result, sym, refl, ap, ◌∙◌, subst, inl, inr, arith, length-append, length-take}
 use Rattle.std.proofs.lemmas.List.{length-map}
 use Rattle.refusal.specs.Table.{number_of}
 use Rattle.refusal.specs.declared.Misfit.{Misfit}
@@ -12,7 +12,7 @@ use Rattle.rule.specs.declared.node.NodeRow.{NodeRow}
 use Rattle.rule.specs.declared.rule.Rule.{Rule}
 use Rattle.rule.proofs.Exact as made
 use Rattle.rule.proofs.Sole as made-sole
-use Rattle.record.specs.Format.{one, each, four, node_bytes, nodes_then, samples_then}
+use Rattle.record.specs.Format.{one, each, node_bytes, nodes_then, samples_then}
 use Rattle.record.specs.Opening.{rows_of, after_nodes, Holds, NoSamples, Broken, Answered, Exactly, Tested, no_count, wrong_count, nodes_cut, no_rule, no_samples, no_sample_count, wrong_sample_count, samples_cut, more_bytes}
 use Rattle.record.specs.declared.opening.Opened.{Opened}
 use Rattle.record.proofs.Sections.{length-nodes}

@@ -1,14 +1,13 @@
 -- Bytes have one list of samples and one ending. Assumes nothing.
-use Rattle.std.proofs.Common.{◌≡◌, ℕ, zero, suc, ◌+◌, ◌*◌, ◌/◌, ◌%◌, ◌<◌, ◌≤◌, ◌⊎◌, List, [], ◌∷◌, ◌++◌, length, get_or, take, sym, refl, ap, ◌∙◌, subst, ap₂, inl, inr, append_assoc, arith, length-append}
+use Rattle.std.proofs.Common.{◌≡◌, ℕ, ◌+◌, List, [], ◌∷◌, ◌++◌, length, take, sym, refl, ap, ◌∙◌, subst, ap₂, inl, inr, append_assoc, arith}
 use Rattle.std.specs.List.{AllByRecursion as All}
 use Rattle.std.proofs.lemmas.List.{append_cancel_left}
-use Rattle.refusal.specs.declared.Fault.{Fault as FaultOf}
 use Rattle.sample.specs.Coming.{Coming}
 use Rattle.sample.specs.Rows.{Fits}
 use Rattle.sample.specs.declared.ending.Ending.{Ending}
 use Rattle.sample.specs.declared.ending.Ending.TheVariants.{Dry, Fault}
 use Rattle.sample.specs.declared.row.SampleRow.{SampleRow}
-use Rattle.record.specs.Coming.{Whole, BrokenFirst, Ends, Comes}
+use Rattle.record.specs.Coming.{Whole, Ends, Comes}
 use Rattle.record.specs.Format.{each, eight, two, sample_bytes}
 use Rattle.record.specs.Reading.{row_of}
 use Rattle.record.proofs.Bytes.{elements_are}

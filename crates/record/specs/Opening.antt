@@ -10,7 +10,7 @@ use Rattle.rule.specs.Rows.{row_of}
 use Rattle.rule.specs.declared.node.NodeRow.{NodeRow}
 use Rattle.rule.specs.declared.rule.Rule.{Rule}
 use Rattle.record.specs.Limits.{most_samples}
-use Rattle.record.specs.Format.{one, four, nodes_then, samples_then}
+use Rattle.record.specs.Format.{one, nodes_then, samples_then}
 use Rattle.record.specs.declared.opening.Opened.{Opened}
 
 abbrev pub rows_of : Rule → List NodeRow

@@ -1,5 +1,5 @@
 -- A loop that reads one row after another. Assumes nothing.
-use Rattle.std.proofs.Common.{◌≡◌, ℕ, ◌+◌, ◌<◌, ◌≤◌, ◌≢◌, List, map, length, get_or, take, set, sym, refl, ap, ◌∙◌, arith, length-take, get_or-set_other, get_or-set_same, below_more}
+use Rattle.std.proofs.Common.{◌≡◌, ℕ, ◌+◌, ◌<◌, ◌≤◌, ◌≢◌, List, map, length, get_or, take, set, ap, ◌∙◌, arith, length-take, get_or-set_other, get_or-set_same, below_more}
 use lib.ListN.{get_or-map}
 use Rattle.std.proofs.lemmas.List.{get_or-take, get_or_default, length-map, same_lists}
 use Rattle.rule.specs.Rows.{Fits, row_of}

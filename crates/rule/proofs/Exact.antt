@@ -1,14 +1,12 @@
 -- Rows of a rule are refused by none of the tests, and other rows by one. Assumes nothing.
-use Rattle.std.proofs.Common.{◌≡◌, ℕ, ◌+◌, ◌<◌, ◌≤◌, ◌⊎◌, List, map, length, get_or, Ok, Err, sym, refl, ap, ◌∙◌, inl, inr, arith, length-take}
+use Rattle.std.proofs.Common.{◌≡◌, List, map, length, get_or, Ok, Err, sym, refl, ap, ◌∙◌, inl, inr, arith, length-take}
 use lib.ListN.{get_or-map}
 use Rattle.std.proofs.lemmas.List.{length-map}
 use Rattle.refusal.specs.declared.Misfit.{Misfit}
 use Rattle.logic.specs.Formula.{span}
-use Rattle.rule.specs.Limits.{largest_span}
 use Rattle.rule.specs.Made.{nodes_of, Refused, wrong_count, no_node, too_far, Exactly}
 use Rattle.rule.specs.Rows.{row_of}
 use Rattle.rule.specs.Tables.{formula}
-use Rattle.rule.specs.declared.node.Node.{Node}
 use Rattle.rule.specs.declared.node.Node.TheVariants.{True}
 use Rattle.rule.specs.declared.node.NodeRow.{NodeRow}
 use Rattle.rule.specs.declared.rule.Rule.{Rule}

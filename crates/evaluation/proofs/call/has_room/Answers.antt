@@ -1,4 +1,4 @@
-use Rattle.std.proofs.Common.{◌≡◌, ℕ, ◌+◌, ◌*◌, ◌/◌, ◌<◌, ◌≤◌, Bool, true, false, is_some, Some, None, Option, sym, refl, ◌∙◌, le-div_iff_mul-le, arith}
+use Rattle.std.proofs.Common.{◌≡◌, ℕ, ◌+◌, ◌<◌, true, is_some, Some, None, Option, sym, refl, ◌∙◌, le-div_iff_mul-le, arith}
 use borrow.Author.Tests.{both_ways}
 use Rattle.std.specs.Option.{SomeIff}
 use Rattle.evaluation.specs.Nodes.{Asked}

@@ -2,7 +2,6 @@ use Rattle.std.proofs.Common.{ℕ, get_or, sym, ap, ◌∙◌}
 use lib.ListN.{get_or-map}
 use Rattle.sample.specs.Rows.{nearest}
 use Rattle.logic.specs.Trace.{blank}
-use Rattle.evaluation.specs.Memory.{kept_ends}
 use Rattle.evaluation.proofs.Connect.{cell_same}
 use Rattle.evaluation.proofs.connectives.level_cell.Goals as goal
 

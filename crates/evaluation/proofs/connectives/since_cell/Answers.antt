@@ -1,4 +1,4 @@
-use Rattle.std.proofs.Common.{◌≡◌, ℕ, ◌+◌, length, refl, ap, ◌∙◌}
+use Rattle.std.proofs.Common.{ap}
 use Rattle.evaluation.specs.Memory.{row_in}
 use Rattle.evaluation.specs.declared.memory.End.TheVariants.{Low, High}
 use Rattle.evaluation.proofs.Connect.{cell_same, since_is}

@@ -1,4 +1,4 @@
-use Rattle.std.proofs.Common.{◌≡◌, ℕ, ◌+◌, ◌-◌, ◌<◌, ltb, length, sym, refl, ap, ◌∙◌, ap₂, arith}
+use Rattle.std.proofs.Common.{◌≡◌, ℕ, ◌+◌, ltb, ap, ◌∙◌, ap₂}
 use Rattle.logic.specs.Trace.{newest}
 use Rattle.evaluation.specs.Memory.{window, row_in}
 use Rattle.evaluation.specs.declared.memory.End.TheVariants.{Low, High}

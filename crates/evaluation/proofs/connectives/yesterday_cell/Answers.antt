@@ -1,4 +1,4 @@
-use Rattle.std.proofs.Common.{◌≡◌, ℕ, ◌+◌, ◌-◌, ◌*◌, ◌<◌, ◌&&◌, leb, length, ap, ◌∙◌, ap₂, arith}
+use Rattle.std.proofs.Common.{ℕ, ◌+◌, ◌*◌, ◌<◌, ◌&&◌, leb, length, ap, ◌∙◌, ap₂, arith}
 use Rattle.logic.specs.Trace.{within}
 use Rattle.evaluation.specs.Memory.{window, row_in, side_in, side_of}
 use Rattle.evaluation.specs.declared.memory.End.TheVariants.{Low, High}

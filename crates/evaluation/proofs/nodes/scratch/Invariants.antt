@@ -1,4 +1,3 @@
-use Rattle.std.proofs.Common.{length}
 use Rattle.evaluation.specs.Nodes.{Held}
 use Rattle.evaluation.proofs.nodes.scratch.Given as goal
 

@@ -1,6 +1,5 @@
-use Rattle.std.proofs.Common.{◌≡◌, ℕ, ◌+◌, ◌<◌, ◌≤◌, true, false, ◌&&◌, leb, length, sym, refl, ap, ◌∙◌, add-one, arith}
+use Rattle.std.proofs.Common.{◌≡◌, ◌+◌, length, sym, refl, ap, ◌∙◌, add-one, arith}
 use Rattle.evaluation.specs.Memory.{ahead, row_in, next_place, side_of}
-use Rattle.evaluation.specs.Pass.{Pass}
 use Rattle.evaluation.specs.Searches.{stamp_on}
 use Rattle.evaluation.proofs.Rings.{in_time, too_late}
 use Rattle.evaluation.proofs.Runs.{run_none, run_more, run_stops}

@@ -1,6 +1,5 @@
 use Rattle.std.proofs.Common.{◌≡◌, ◌<◌, length}
 use Rattle.evaluation.specs.Memory.{ahead}
-use Rattle.evaluation.specs.Pass.{Pass}
 use Rattle.evaluation.specs.Searches.{pass_on}
 use Rattle.evaluation.proofs.search.seek.Given as goal
 

@@ -1,6 +1,5 @@
-use Rattle.std.proofs.Common.{◌≡◌, ℕ, ◌+◌, ◌<◌, ◌≤◌, length, sym, refl, ap, ◌∙◌, ap₂, add-one, arith}
+use Rattle.std.proofs.Common.{◌≡◌, ◌+◌, length, sym, refl, ap, ◌∙◌, ap₂, add-one, arith}
 use Rattle.evaluation.specs.Memory.{back, row_in, earlier_place, side_of}
-use Rattle.evaluation.specs.Pass.{Pass}
 use Rattle.evaluation.specs.Searches.{stamp_back, pass_back}
 use Rattle.evaluation.proofs.Rings.{in_time_back, too_early}
 use Rattle.evaluation.proofs.Runs.{run_none, run_more, run_stops}

@@ -1,6 +1,5 @@
 use Rattle.std.proofs.Common.{◌≡◌, ◌<◌, length}
 use Rattle.evaluation.specs.Memory.{back}
-use Rattle.evaluation.specs.Pass.{Pass}
 use Rattle.evaluation.specs.Searches.{pass_back}
 use Rattle.evaluation.proofs.search.seek_back.Given as goal
 

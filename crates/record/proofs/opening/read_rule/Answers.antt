@@ -1,7 +1,7 @@
-use Rattle.std.proofs.Common.{◌≡◌, ℕ, ◌+◌, ◌-◌, ◌*◌, ◌<◌, ◌≤◌, List, length, get_or, take, drop, sym, refl, ap, ◌∙◌, inl, inr, ⊎_elim, arith, length-drop, length-take, drop-cons, eqb-true, false-eqb}
+use Rattle.std.proofs.Common.{◌≡◌, ℕ, ◌+◌, ◌-◌, ◌*◌, List, length, get_or, take, drop, sym, refl, ap, ◌∙◌, inl, inr, ⊎_elim, arith, length-drop, length-take, drop-cons, eqb-true, false-eqb}
 use Rattle.std.proofs.lemmas.List.{nil_from_length}
 use Rattle.record.specs.Opening.{no_count, wrong_count, nodes_cut, no_rule}
-use Rattle.record.proofs.Sections.{rows_whole, place_small}
+use Rattle.record.proofs.Sections.{rows_whole}
 use Rattle.record.proofs.opening.read_rule.Goals as goal
 
 all : (bs : List ℕ) → get_or bs 0 0 - 0 ≡ get_or bs 0 0

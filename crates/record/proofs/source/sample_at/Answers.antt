@@ -1,4 +1,4 @@
-use Rattle.std.proofs.Common.{◌≡◌, ◌+◌, ◌-◌, Ok, Err, sym, ap, ◌∙◌, subst, arith}
+use Rattle.std.proofs.Common.{◌+◌, ◌-◌, Ok, Err, sym, ap, ◌∙◌, subst, arith}
 use Rattle.sample.specs.Coming.{first, rest}
 use Rattle.sample.specs.Rows.{Fits}
 use Rattle.record.proofs.Samples.{comes_more, comes_broken}

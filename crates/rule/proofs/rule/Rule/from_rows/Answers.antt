@@ -1,4 +1,4 @@
-use Rattle.std.proofs.Common.{◌≡◌, ℕ, ◌-◌, ◌<◌, ◌≤◌, length, get_or, take, sym, refl, ap, ◌∙◌, inl, inr, arith, length-set, length-take, eqb-true, false-eqb}
+use Rattle.std.proofs.Common.{◌≡◌, ℕ, ◌-◌, ◌<◌, length, get_or, take, sym, refl, ap, ◌∙◌, inl, inr, arith, length-set, length-take, eqb-true, false-eqb}
 use Rattle.rule.specs.Horizons.{last_horizon}
 use Rattle.rule.specs.Made.{Stands, wrong_count, no_node, too_far}
 use Rattle.rule.specs.declared.horizon.Horizon.{Horizon}
