@@ -129,14 +129,14 @@ pub(crate) fn check_source<S: Source>(
         for _ in 0..2 {
             match source.peek() {
                 Ok(sample) => expect(rt, &shown(sample), expected, line)?,
-                Err(_) => return Err(Fail::new("no sample where one was to come")).note(line),
+                Err(_) => panic!(rt; "no sample where one was to come: {}", line),
             }
         }
         source.step();
     }
     for _ in 0..3 {
         let found = match source.peek() {
-            Ok(_) => return Err(Fail::new("a sample where none was to come")).note(line),
+            Ok(_) => panic!(rt; "a sample where none was to come: {}", line),
             Err(Ending::Dry) => [11, 0],
             Err(Ending::Fault(fault)) => [u64::from(fault.number), fault.place],
         };

@@ -166,15 +166,15 @@ fn check_damage(rt: &impl Abort, heap: Global, figures: &[u64], line: &str) -> R
         for place in *first..=*last {
             let bytes = damaged(place, *value);
             let size = if *value == 256 { place.min(111) } else { 111 };
+            let named = format!(in heap; "{line} (byte {place})")?;
             check_opening(
                 rt,
                 heap,
                 &bytes[0..size as usize],
                 &mut Rule::new(),
                 expected,
-                line,
-            )
-            .note(place)?;
+                &named,
+            )?;
             seen = seen.saturating_add(1);
         }
     }

@@ -112,6 +112,7 @@ const MARGIN_PAIRS: [Pair; 6] = [
 
 fn check_scale<S: Scale>(
     rt: &impl Abort,
+    name: &str,
     best: i64,
     worst: i64,
     numbers: &[Restored],
@@ -120,15 +121,17 @@ fn check_scale<S: Scale>(
     assert_eq!(rt;
         (S::best().kept(), S::worst().kept(), S::best().passes()),
         (best, worst, true),
-        "best and worst"
+        "best and worst of {}",
+        name
     );
     for (number, kept, turned, passes) in numbers {
         let value = S::restored(*number);
         assert_eq!(rt;
             (value.kept(), value.turn_over().kept(), value.passes()),
             (*kept, *turned, *passes),
-            "{}",
-            *number
+            "{} of {}",
+            *number,
+            name
         );
     }
     for (one, other, either, both, same) in pairs {
@@ -137,7 +140,8 @@ fn check_scale<S: Scale>(
         assert_eq!(rt;
             (a.or(b).kept(), a.and(b).kept(), a.same(b)),
             (*either, *both, *same),
-            "of two values"
+            "of two values of {}",
+            name
         );
     }
     Ok(())
@@ -145,6 +149,6 @@ fn check_scale<S: Scale>(
 
 #[test]
 fn scales(rt: HostRuntime) -> Result<(), Fail> {
-    check_scale::<PassFail>(&rt, 1, 0, &VERDICTS, &VERDICT_PAIRS).note("pass/fail")?;
-    check_scale::<Margin>(&rt, 8193, -8193, &MARGINS, &MARGIN_PAIRS).note("margins")
+    check_scale::<PassFail>(&rt, "pass/fail", 1, 0, &VERDICTS, &VERDICT_PAIRS)?;
+    check_scale::<Margin>(&rt, "margins", 8193, -8193, &MARGINS, &MARGIN_PAIRS)
 }
