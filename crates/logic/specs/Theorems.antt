@@ -1,6 +1,6 @@
 -- What is proved of the meaning, over every scale with the laws. Assumes nothing.
 use Rattle.std.specs.Prelude.{◌≡◌, ℕ, ◌+◌, ◌<◌, ◌≤◌, List, ◌++◌, length, slice_index}
-use Rattle.std.specs.List.{AllByRecursion as All}
+use Rattle.std.specs.List.{AllByRecursion}
 use Rattle.scale.specs.Laws.{Ops, Below}
 use Rattle.scale.specs.Limits.{largest_code}
 use Rattle.sample.specs.declared.row.SampleRow.{SampleRow}
@@ -79,4 +79,4 @@ CanContinue =
     (A : Formula) (σ : List SampleRow) (j : ℕ) →
     Rising (trace σ) →
     j < length σ →
-    (more : List SampleRow) × All Coded more × Continues σ more × Waited A (σ ++ more) j
+    (more : List SampleRow) × AllByRecursion Coded more × Continues σ more × Waited A (σ ++ more) j

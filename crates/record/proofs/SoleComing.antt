@@ -1,6 +1,6 @@
 -- Bytes have one list of samples and one ending. Assumes nothing.
 use Rattle.std.proofs.Common.{◌≡◌, ℕ, ◌+◌, List, [], ◌∷◌, ◌++◌, length, take, sym, refl, ap, ◌∙◌, subst, ap₂, inl, inr, append_assoc, arith}
-use Rattle.std.specs.List.{AllByRecursion as All}
+use Rattle.std.specs.List.{AllByRecursion}
 use Rattle.std.proofs.lemmas.List.{append_cancel_left}
 use Rattle.sample.specs.Coming.{Coming}
 use Rattle.sample.specs.Rows.{Fits}
@@ -42,7 +42,7 @@ one_ending size left (Fault f) (Fault g) (a, inr (b, c)) (a', inl (b', c', d')) 
 one_ending size left (Fault f) (Fault g) (a, inr (b, c)) (a', inr (b', c')) =
     let n : f.number ≡ g.number = b ∙ sym b' in let p : f.place ≡ g.place = omega arith in λ i. Fault (record { number = n i; place = p i })
 
-go : (size : ℕ) (rs ss : List SampleRow) (xs ys : List ℕ) (e f : Ending) → All Whole rs → All Whole ss → each sample_bytes rs ++ xs ≡ each sample_bytes ss ++ ys → Ends size xs e → Ends size ys f → (rs ≡ ss) × (e ≡ f)
+go : (size : ℕ) (rs ss : List SampleRow) (xs ys : List ℕ) (e f : Ending) → AllByRecursion Whole rs → AllByRecursion Whole ss → each sample_bytes rs ++ xs ≡ each sample_bytes ss ++ ys → Ends size xs e → Ends size ys f → (rs ≡ ss) × (e ≡ f)
 go size [] [] xs ys e f w v p h k = (refl, one_ending size xs e f h (subst (λ t. Ends size t f) (sym p) k))
 go size [] (s ∷ ss) xs ys e f w v p h k = absurd (not_whole size s (each sample_bytes ss ++ ys) xs e v.0 (p ∙ append_assoc (sample_bytes s) (each sample_bytes ss) ys) h)
 go size (r ∷ rs) [] xs ys e f w v p h k = absurd (not_whole size r (each sample_bytes rs ++ xs) ys f w.0 (sym p ∙ append_assoc (sample_bytes r) (each sample_bytes rs) xs) k)

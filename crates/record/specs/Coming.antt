@@ -1,6 +1,6 @@
 -- What a record source gives: the samples that stand in the bytes from a place on, up to the first broken one. Assumes nothing.
 use Rattle.std.specs.Prelude.{◌≡◌, ℕ, ◌+◌, ◌<◌, ◌⊎◌, List, [], ◌++◌, length, drop}
-use Rattle.std.specs.List.{AllByRecursion as All}
+use Rattle.std.specs.List.{AllByRecursion}
 use Rattle.refusal.specs.Table.{number_of}
 use Rattle.refusal.specs.declared.Refusal.TheVariants.{Cut, Range}
 use Rattle.sample.specs.Coming.{Coming}
@@ -33,5 +33,5 @@ Ends size left (Fault fault) =
 pub record Comes (bytes : List ℕ) (start : ℕ) (coming : Coming) : Type 0 where
   pub left : List ℕ
   pub bytes_are : drop start bytes ≡ each sample_bytes coming.samples ++ left
-  pub whole : All Whole coming.samples
+  pub whole : AllByRecursion Whole coming.samples
   pub ends : Ends (length bytes) left coming.ending

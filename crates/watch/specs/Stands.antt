@@ -1,6 +1,6 @@
 -- Which worlds, states of the model, memory stands for, and what a call must keep of that. Assumes nothing.
 use Rattle.std.specs.Prelude.{◌≡◌, ℕ, ◌-◌, ◌%◌, ◌<◌, ◌≤◌, true, List, ◌++◌, map, length, Some, None, Option, slice_index, slice_index_or}
-use Rattle.std.specs.List.{AllByRecursion as All}
+use Rattle.std.specs.List.{AllByRecursion}
 use Rattle.scale.specs.Laws.{Ops}
 use Rattle.logic.specs.Trace.{blank, trace, newest, Rising}
 use Rattle.sample.specs.Limits.{stamp_limit}
@@ -43,7 +43,7 @@ pub record Stands {V : Type 0} (ops : Ops V) (read : ℕ → ℕ → V) (w : Wor
   pub rises : Rising (trace w.capture)
   pub samples_fit : (j : ℕ) → j < accepted w → Fits (slice_index_or w.capture j blank)
   pub taken_some : w.taken ≤ accepted w
-  pub readings_fit : All (λ (r : Reading V). r.stamp < stamp_limit) w.tray
+  pub readings_fit : AllByRecursion (λ (r : Reading V). r.stamp < stamp_limit) w.tray
 
 -- nothing was armed and no record taken; the memory may have anything in it. That nothing was accepted is part of what a new watch is,
 -- since only an armed one changes that

@@ -1,7 +1,7 @@
 -- Every sample is accepted and read once, in order. Assumes nothing.
 use Rattle.std.proofs.Common.{◌≡◌, ℕ, ◌+◌, ◌-◌, List, [], ◌∷◌, ◌++◌, map, sym, ap, ◌∙◌, subst, ap₂, append_assoc, zero-add, arith}
 use mathlib.Core.List.{map-append}
-use Rattle.std.specs.List.{range_with_len, AllByRecursion as All}
+use Rattle.std.specs.List.{range_with_len, AllByRecursion}
 use Rattle.sample.specs.Coming.{Coming}
 use Rattle.scale.specs.Laws.{Ops, Laws}
 use Rattle.world.proofs.Keep.{drawn, taken, pulled, captured}
@@ -62,7 +62,7 @@ module _ {V : Type 0} {ops : Ops V} (laws : Laws ops) (read : ℕ → ℕ → V)
             ∙ ap (λ k. range_with_len 0 w.taken ++ range_with_len k (accepted w - w.taken)) (sym (zero-add w.taken))
             ∙ sym (counting_join 0 w.taken (accepted w - w.taken))
             ∙ ap (range_with_len 0) (sym (zero-add _) ∙ total));
-        readings = λ cs. subst (λ x. All (Reads ops read (rule_in (W cs)) (W cs).capture) (x ++ (W cs).tray)) (out cs) (K cs).right;
+        readings = λ cs. subst (λ x. AllByRecursion (Reads ops read (rule_in (W cs)) (W cs).capture) (x ++ (W cs).tray)) (out cs) (K cs).right;
         positions = λ cs. record {
           drew = λ d e. drew ops read s (W cs) d e ∙ in_all cs;
           took = λ p e. took ops read s (W cs) p e ∙ out-all cs;

@@ -4,7 +4,7 @@ use lib.ListN.{length-map, get_or-map}
 use Rattle.std.proofs.lemmas.List.FromFn.{length-range_with_len, get_or-range_with_len}
 use Rattle.std.proofs.ByRecursion.{All-get_or}
 use Rattle.std.proofs.lemmas.Bool.{cases_eq, or_left, or_right, eq-eqb, lt-ltb, ltb-true, true≢false}
-use Rattle.std.specs.List.{AllByRecursion as All}
+use Rattle.std.specs.List.{AllByRecursion}
 use Rattle.refusal.specs.declared.Refusal.TheVariants as refusal
 use Rattle.rule.specs.declared.rule.Rule.{Rule}
 use Rattle.sample.specs.Coming.{Coming}
@@ -34,7 +34,7 @@ Fitting s w = is_some w.armed ≡ true → fits_armed w.armed s ≡ true
 
 module _ {V : Type 0} (ops : Ops V) (read : ℕ → ℕ → V) (s : Sizes) where
   -- so no test fails with memory, where only the second has it
-  none_memory : (w : World V) (ts : List (Bool × Refused)) → Fitting s w → All (λ t. t.1 ≡ memory → ⊥) ts → Fails ((is_some w.armed, watch_refuses refusal.Idle) ∷ (fits_armed w.armed s, memory) ∷ ts) memory → ⊥
+  none_memory : (w : World V) (ts : List (Bool × Refused)) → Fitting s w → AllByRecursion (λ t. t.1 ≡ memory → ⊥) ts → Fails ((is_some w.armed, watch_refuses refusal.Idle) ∷ (fits_armed w.armed s, memory) ∷ ts) memory → ⊥
   none_memory w ts fit h (inl x) = unlike refusal.Idle refusal.Memory refl x.1
   none_memory w ts fit h (inr (t, inl x)) = true≢false (sym (fit t) ∙ x.0)
   none_memory w ts fit h (inr (t, inr (u, x))) = none_such ts memory h x

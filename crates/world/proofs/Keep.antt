@@ -5,7 +5,7 @@ use lib.ListN.{length-map, get_or-map}
 use lib.Seq.{get_or-append_seam}
 use Rattle.std.proofs.ByRecursion.{All-push, All-weaker}
 use Rattle.std.proofs.lemmas.Bool.{cases_eq, or_cases, and_parts, and_from, ltb-true, eqb-true, eq-eqb}
-use Rattle.std.specs.List.{range_with_len, AllByRecursion as All}
+use Rattle.std.specs.List.{range_with_len, AllByRecursion}
 use Rattle.logic.proofs.Lists.{encloses}
 use Rattle.logic.specs.Formula.{Formula, span}
 use Rattle.logic.specs.Meaning.{plain}
@@ -76,7 +76,7 @@ module _ {V : Type 0} (ops : Ops V) (read : ℕ → ℕ → V) (s : Sizes) (sour
     pub order : map (λ (r : Reading V). r.position) (w.pulled ++ w.tray) ≡ range_with_len 0 w.taken
     pub room : held_count w ≤ places_in w
     pub tray_room : length w.tray ≤ s.tray_places
-    pub right : All (Reads ops read (rule_in w) w.capture) (w.pulled ++ w.tray)
+    pub right : AllByRecursion (Reads ops read (rule_in w) w.capture) (w.pulled ++ w.tray)
 
 module _ {V : Type 0} {ops : Ops V} (laws : Laws ops) (read : ℕ → ℕ → V) (s : Sizes) (source : Coming) where
   -- a reading stays right with one sample more
@@ -163,7 +163,7 @@ module _ {V : Type 0} {ops : Ops V} (laws : Laws ops) (read : ℕ → ℕ → V)
         order = ap (map (λ r. r.position)) (sym join) ∙ K.order;
         room = K.room;
         tray_room = let n = ap length e in let m = K.tray_room in omega arith;
-        right = subst (λ x. All (Reads ops read (rule_in w) w.capture) x) join K.right;
+        right = subst (λ x. AllByRecursion (Reads ops read (rule_in w) w.capture) x) join K.right;
       }
 
   pub kept : (cs : List Call) (w : World V) → Kept ops read s source w → Kept ops read s source (after ops read s cs w)

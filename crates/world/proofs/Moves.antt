@@ -1,7 +1,7 @@
 -- How a call comes to its outcome, and the five ways in which one can change things. Assumes nothing.
 use Rattle.std.proofs.Common.{◌≡◌, ℕ, ◌<◌, Bool, true, false, eqb, ltb, ◌⊎◌, List, [], ◌∷◌, length, get_or, is_some, Some, None, Option, sym, refl, ap, subst, inl, inr, arith}
 use Rattle.std.proofs.lemmas.Bool.{cond_both, true≢false, ltb-true, eqb-false, not-true}
-use Rattle.std.specs.List.{AllByRecursion as All}
+use Rattle.std.specs.List.{AllByRecursion}
 use Rattle.logic.specs.Trace.{blank}
 use Rattle.refusal.specs.Table.{number_of}
 use Rattle.refusal.specs.declared.Refusal.{Refusal}
@@ -22,7 +22,7 @@ use Rattle.world.specs.declared.refused.Refused.{Refused}
 
 -- every test holds
 abbrev pub Hold : List (Bool × Refused) → Type 0
-Hold = All (λ t. t.0 ≡ true)
+Hold = AllByRecursion (λ t. t.0 ≡ true)
 
 -- one fails that has this refusal, and every test before it holds
 abbrev pub Fails : List (Bool × Refused) → Refused → Type 0
@@ -50,7 +50,7 @@ not_refused [] h = refl
 not_refused (t ∷ ts) h = rw h.0 (not_refused ts h.1)
 
 -- no test has this refusal, so none fails with it
-pub none_such : (ts : List (Bool × Refused)) (why : Refused) → All (λ t. t.1 ≡ why → ⊥) ts → Fails ts why → ⊥
+pub none_such : (ts : List (Bool × Refused)) (why : Refused) → AllByRecursion (λ t. t.1 ≡ why → ⊥) ts → Fails ts why → ⊥
 none_such [] why h f = f
 none_such (t ∷ ts) why h (inl f) = h.0 f.1
 none_such (t ∷ ts) why h (inr f) = none_such ts why h.1 f.1

@@ -1,7 +1,7 @@
 -- What an owner may rely on, whatever calls he makes on objects that were unused. "At all times" is "after every list of calls", since
 -- the first calls of a list are a list. Assumes nothing.
 use Rattle.std.specs.Prelude.{◌≡◌, ℕ, suc, ◌+◌, ◌-◌, ◌<◌, ◌≤◌, Bool, true, false, List, [], ◌∷◌, ◌++◌, map, length, Some, None, ◌≢◌}
-use Rattle.std.specs.List.{range_with_len, AllByRecursion as All}
+use Rattle.std.specs.List.{range_with_len, AllByRecursion}
 use Rattle.refusal.specs.declared.Refusal.TheVariants.{Full, Memory, Backward}
 use Rattle.scale.specs.Laws.{Ops, Below}
 use Rattle.logic.specs.Formula.{Formula, wait}
@@ -126,7 +126,7 @@ module _ {V : Type 0} (ops : Ops V) (read : ℕ → ℕ → V) (s : Sizes) (sour
   Goes_on =
       (cs : List Call) (p : ℕ) →
       p < accepted (world cs) →
-      (more : List SampleRow) × All Coded more × RunsBeyond (rule_in (world cs)) (world cs).capture p more
+      (more : List SampleRow) × AllByRecursion Coded more × RunsBeyond (rule_in (world cs)) (world cs).capture p more
 
   -- look shows bounds at every held position, and the true value of each such continuation lies between them
   abbrev pub Encloses : Type 0
@@ -213,7 +213,7 @@ module _ {V : Type 0} (ops : Ops V) (read : ℕ → ℕ → V) (s : Sizes) (sour
 
   -- each of these readings is right
   abbrev pub Readings : Type 0
-  Readings = (cs : List Call) → All (Reads ops read (rule_in (world cs)) (world cs).capture) (pulls (got cs) ++ (world cs).tray)
+  Readings = (cs : List Call) → AllByRecursion (Reads ops read (rule_in (world cs)) (world cs).capture) (pulls (got cs) ++ (world cs).tray)
 
   -- an accepted draw and an accepted take answer how many were accepted before; an accepted pull answers the tray's oldest reading
   pub record Positions (cs : List Call) : Type 0 where
