@@ -1,6 +1,6 @@
 -- When positions settle, and that each is counted once, when it does. Assumes nothing.
 use Rattle.std.proofs.Common.{◌≡◌, ℕ, suc, ◌+◌, ◌<◌, ◌≤◌, true, not, ◌&&◌, ltb, leb, List, [], ◌∷◌, ◌++◌, length, sym, refl, ap, ◌∙◌, inl, inr, add-zero, add-one, arith, length-append}
-use mathlib.Core.Bool.{and_true}
+use mathlib.Core.Bool.{and-true}
 use Rattle.std.proofs.lemmas.Bool.{cases_Bool, cases_lt, and_parts, and_right, lt-ltb, le-ltb, le-leb, eqb-true}
 use Rattle.logic.proofs.Lists.{stays_settled}
 use Rattle.logic.proofs.Settle as settle
@@ -53,10 +53,10 @@ module _ {V : Type 0} {ops : Ops V} (laws : Laws ops) (read : ℕ → ℕ → V)
               inl (rw (lt-ltb j n y, z) refl, and_right (leb w.taken j) _ (and_right (p j) _ (rw (lt-ltb j n y, z) refl)), here))
           | inr z ↦ elim (cases_lt j w.taken) [
             | inl t ↦ (let o : ◌≡◌ {A = ℕ} 0 1 = cc (done j t, z) in absurd (omega arith))
-            | inr t ↦ inr (rw (lt-ltb j n y, z) refl, rw (le-leb w.taken j t, lt-ltb j n y, z) (and_true (p j)))
+            | inr t ↦ inr (rw (lt-ltb j n y, z) refl, rw (le-leb w.taken j t, lt-ltb j n y, z) (and-true (p j)))
           ]
         ]
-        | inr y ↦ inr (rw (le-ltb j n y) refl, rw (le-leb w.taken j (omega arith), le-ltb j n y) (and_true (p j)))
+        | inr y ↦ inr (rw (le-ltb j n y) refl, rw (le-leb w.taken j (omega arith), le-ltb j n y) (and-true (p j)))
       ])
       ∙ ap (λ k. k + many r (suc n)) (many_below q n)
 
