@@ -3,7 +3,6 @@ ghost use Rattle.std.specs.Prelude.{◌+◌, ◌<◌, ◌≤◌, length};
 ghost use Rattle.sample.specs.Limits.{stamp_limit};
 
 use crate::reading::ReadingRow;
-use crate::stamped::Stamped;
 
 mod calls;
 mod steps;
@@ -12,7 +11,7 @@ mod steps;
 /// keeps the newest `kept` of them. Record n, counted from 0, lies at place n modulo the number of places. Stamps rise and stay below
 /// their limit, so that no count can overflow.
 #[derive(Drop)]
-pub struct Strip<'a, R: Stamped> {
+pub struct Strip<'a, R> {
     rows: &'a mut [R],
     taken: u64,
     kept: usize,

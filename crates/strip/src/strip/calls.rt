@@ -58,8 +58,8 @@ impl<'a, R: Stamped> Strip<'a, R> {
     /// Takes a record in. Refused, and nothing changes, if there is no free place or else if the stamp is not later than the last one taken.
     pub fn push(&mut self, row: R) -> Result<(), Refusal>
         ensures same { self.new.rows.ghost_name ≡ self.old.rows.ghost_name }
-        ensures answer { result ≡ pushing (ring_of self.old) (stamped row) }
-        ensures moved { ring_of self.new ≡ pushed (ring_of self.old) (stamped row) row }
+        ensures answer { result ≡ pushing (ring_of self.old) (R.stamped row) }
+        ensures moved { ring_of self.new ≡ pushed (ring_of self.old) (R.stamped row) row }
         ensures listed { result ≡ Ok tt → contents (ring_of self.new) ≡ contents (ring_of self.old) ++ row ∷ [] }
     {
         let stamp = row.stamp();
