@@ -1,11 +1,10 @@
 -- The transitions of the model: what each call answers and changes. Assumes nothing.
-use Rattle.std.specs.Prelude.{ℕ, zero, suc, ◌+◌, ◌-◌, Bool, true, false, cond, not, ◌&&◌, ◌||◌, List, [], ◌∷◌, ◌++◌, map, length, is_some, Some, None, Option, ◌==◌, nat_le, nat_lt, slice_index, slice_index_or}
+use Rattle.std.specs.Prelude.{ℕ, zero, suc, ◌+◌, ◌-◌, Bool, false, cond, not, ◌&&◌, ◌||◌, List, [], ◌∷◌, ◌++◌, map, length, is_some, Some, None, Option, ◌==◌, nat_le, nat_lt, slice_index, slice_index_or}
 use Rattle.scale.specs.Laws.{Ops}
 use Rattle.logic.specs.Formula.{Formula, truth, span}
 use Rattle.logic.specs.Meaning.{Ends, ends, settled_at, alarm_from}
 use Rattle.logic.specs.Trace.{blank, trace, newest}
-use Rattle.rule.specs.declared.rule.Rule.{Rule}
-use Rattle.sample.specs.Coming.{Coming, rest}
+use Rattle.sample.specs.Coming.{rest}
 use Rattle.sample.specs.declared.row.SampleRow.{SampleRow}
 use Rattle.world.specs.Tests.{Facts, call_refusal, rule_formula, arm_fits, still_fits}
 use Rattle.world.specs.World.{Sizes, Armed, World}

@@ -1,6 +1,6 @@
 -- The model: the abstract state of a monitor with its trace, its finished verdicts and its stream of samples, under one owner, that is
 -- with memory that nobody else alters between calls. Assumes nothing.
-use Rattle.std.specs.Prelude.{ℕ, List, [], Some, None, Option}
+use Rattle.std.specs.Prelude.{ℕ, List, [], None, Option}
 use Rattle.rule.specs.declared.rule.Rule.{Rule}
 use Rattle.sample.specs.Coming.{Coming}
 use Rattle.sample.specs.declared.row.SampleRow.{SampleRow}
