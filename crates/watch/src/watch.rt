@@ -3,7 +3,6 @@ ghost use Rattle.std.specs.Prelude.{◌+◌, ◌≤◌};
 ghost use Rattle.world.specs.Limits.{most_places};
 
 use rule::Rule;
-use scale::TestScale;
 use std::marker::PhantomData;
 
 mod accept;
@@ -16,7 +15,7 @@ mod take;
 /// A watch: the monitor of one rule on the test scale S. It has the rule and numbers; the sample strip, the cells, the tray and the
 /// source are lent to each call. It cannot be copied.
 #[derive(Drop)]
-pub struct Watch<S: TestScale> {
+pub struct Watch<S> {
     armed: bool,
     rule: Rule,
     /// C, the places of the sample strip.
