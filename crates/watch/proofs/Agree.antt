@@ -6,7 +6,7 @@ use Rattle.scale.specs.Laws.{Ops, Laws}
 use Rattle.logic.specs.Trace.{blank}
 use Rattle.sample.specs.declared.row.SampleRow.{SampleRow}
 use Rattle.evaluation.specs.Memory.{row_at}
-use Rattle.world.specs.Steps.{accepted, held, held_count, places_in, places_armed, fits_armed, facts_in, later, next_sample, reading_in, reading_stamps, rule_in, sample_stamps, settled, shown}
+use Rattle.world.specs.Steps.{held_count, places_in, places_armed, fits_armed, facts_in, later, next_sample, reading_in, reading_stamps, rule_in, sample_stamps, settled, shown}
 use Rattle.world.specs.Tests.{call_refusal, source_refuses, arm_fits}
 use Rattle.world.specs.World.{World}
 use Rattle.world.specs.declared.call.Call.{Call}

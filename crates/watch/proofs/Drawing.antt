@@ -1,19 +1,18 @@
 -- An accepted draw follows the model. Assumes nothing.
-use Rattle.std.proofs.Common.{◌≡◌, ℕ, suc, ◌+◌, ◌-◌, ◌*◌, ◌%◌, ◌<◌, ◌≤◌, min, true, false, not, ◌&&◌, ltb, leb, ◌⊎◌, List, [], ◌∷◌, ◌++◌, length, get_or, set, Some, None, sym, refl, ap, ◌∙◌, subst, ap₂, inl, inr, ⊎_elim, add-one, arith, length-append}
+use Rattle.std.proofs.Common.{◌≡◌, ℕ, suc, ◌+◌, ◌-◌, ◌%◌, ◌<◌, ◌≤◌, min, true, false, not, ◌&&◌, ltb, leb, ◌⊎◌, List, [], ◌∷◌, ◌++◌, length, get_or, set, None, sym, ap, ◌∙◌, subst, ap₂, inl, inr, ⊎_elim, arith, length-append}
 use lib.ListN.{get_or-append}
 use Rattle.std.proofs.lemmas.List.{get_or_push}
 use Rattle.std.proofs.lemmas.Bool.{cases_Bool, cases_lt, leb-true, true≢false}
 use Rattle.scale.specs.Laws.{Ops, Laws}
-use Rattle.logic.specs.Formula.{Formula, span}
+use Rattle.logic.specs.Formula.{span}
 use Rattle.logic.specs.Trace.{blank, trace, newest, Rising}
 use Rattle.logic.proofs.Windows.{rising}
-use Rattle.rule.specs.declared.rule.Rule.{Rule}
 use Rattle.sample.specs.Coming.{Coming, rest}
 use Rattle.sample.specs.Rows.{Fits}
 use Rattle.sample.specs.declared.row.SampleRow.{SampleRow}
-use Rattle.strip.specs.Ring.{Ring, with_row, with_newest, contents}
-use Rattle.evaluation.specs.Memory.{cell_at, row_at, kept_ends}
-use Rattle.world.specs.Steps.{rule_in, accepted, places_in, held, held_count, held_of, many, next_sample, stamp_at, shown, settled, newly, answered, changed, formula_armed, places_armed}
+use Rattle.strip.specs.Ring.{Ring, contents}
+use Rattle.evaluation.specs.Memory.{cell_at, kept_ends}
+use Rattle.world.specs.Steps.{rule_in, accepted, places_in, held_of, many, next_sample, stamp_at, shown, settled, newly, answered, changed, formula_armed, places_armed}
 use Rattle.world.specs.Tests.{call_refusal, rule_formula}
 use Rattle.world.specs.World.{World}
 use Rattle.world.specs.declared.answer.Answer.{Answer}
@@ -23,7 +22,7 @@ use Rattle.world.proofs.Holding.{held_is, is_held, stamp_old}
 use Rattle.world.proofs.Keep.{rising_more}
 use Rattle.watch.specs.Calls.{Draws}
 use Rattle.watch.specs.Cells.{FirstLater}
-use Rattle.watch.specs.Memory.{Memory, facts_of, sizes, last_node, last_cell, oldest_held}
+use Rattle.watch.specs.Memory.{Memory, facts_of, sizes, last_node, oldest_held}
 use Rattle.watch.specs.Refreshed.{Refreshed}
 use Rattle.watch.specs.Stands.{Stands, last_armed}
 use Rattle.watch.proofs.Agree.{sample_later}
@@ -31,7 +30,7 @@ use Rattle.watch.proofs.Found.{same_armed, armed_with, from_oldest, below_oldest
 use Rattle.watch.proofs.Fresh.{Put, mirrored, row_there, fresh}
 use Rattle.watch.proofs.LetGo.{let_go}
 use Rattle.watch.proofs.Newly.{counted_newly}
-use Rattle.watch.proofs.Passed.{Ready, DrawPassed, draw_passed}
+use Rattle.watch.proofs.Passed.{DrawPassed, draw_passed}
 
 module _ {V : Type 0} {ops : Ops V} (laws : Laws ops) (read : ℕ → ℕ → V) (m m' : Memory V) (w : World V) (s : Stands ops read w m) (t : DrawPassed ops m) (a : Answer V) (does : Draws m m' a) (within : m.strip.kept ≤ length m.strip.rows) (fit : Fits (get_or m.coming.samples 0 blank)) where
   abbrev σ : List SampleRow

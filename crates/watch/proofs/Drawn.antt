@@ -1,5 +1,5 @@
 -- A draw from its two steps: the tests that come first, and accepting the sample. Assumes nothing.
-use Rattle.std.proofs.Common.{◌≡◌, ℕ, ◌≤◌, Bool, true, false, cond, not, ltb, List, [], ◌∷◌, length, get_or, Some, None, Ok, Err, Option, Result, sym, refl, ap, ◌∙◌, subst, arith}
+use Rattle.std.proofs.Common.{◌≡◌, ℕ, ◌≤◌, Bool, true, false, cond, not, ltb, List, [], ◌∷◌, length, get_or, Some, None, Ok, sym, refl, ap, ◌∙◌, subst, arith}
 use Rattle.std.proofs.lemmas.Bool.{lt-ltb}
 use Rattle.refusal.specs.declared.Refusal.TheVariants as refusal
 use Rattle.scale.specs.Laws.{Ops, Laws}
@@ -12,7 +12,7 @@ use Rattle.sample.specs.declared.row.SampleRow.{SampleRow}
 use Rattle.strip.specs.Ring.{Ring, with_row, with_newest}
 use Rattle.strip.specs.declared.reading.ReadingRow.{ReadingRow}
 use Rattle.evaluation.specs.declared.memory.Cell.{Cell}
-use Rattle.world.specs.Tests.{call_refusal, watch_refuses, source_refuses, rule_formula}
+use Rattle.world.specs.Tests.{call_refusal, watch_refuses, rule_formula}
 use Rattle.world.specs.declared.answer.Answer.TheVariants as answer
 use Rattle.world.specs.declared.answer.Drawn.{Drawn}
 use Rattle.world.specs.declared.call.Call.TheVariants.{Draw}
@@ -24,7 +24,7 @@ use Rattle.watch.specs.Refreshed.{Drawable, Accepting}
 use Rattle.watch.specs.declared.watch.Watch.{Watch}
 use Rattle.watch.proofs.Drawing.{draw_stands}
 use Rattle.watch.proofs.Newly.{few_settled}
-use Rattle.watch.proofs.Promised.{accepted_promise, same_promise}
+use Rattle.watch.proofs.Promised.{accepted_promise}
 
 -- the first sample of what is coming
 first_coming : (samples : List SampleRow) (ending : Ending) (row : SampleRow) → first (record { samples = samples; ending = ending }) ≡ Ok row → (ltb 0 (length samples) ≡ true) × (get_or samples 0 blank ≡ row)

@@ -1,23 +1,20 @@
 -- One sample more: the last node's cells again have the ends over the capture. Assumes nothing.
-use Rattle.std.proofs.Common.{◌≡◌, ℕ, ◌+◌, ◌-◌, ◌*◌, ◌%◌, ◌<◌, ◌≤◌, ◌≢◌, List, [], ◌∷◌, ◌++◌, length, get_or, set, sym, refl, ap, ◌∙◌, subst, ap₂, ⊎_elim, mod-lt, arith, length-append, length-set}
+use Rattle.std.proofs.Common.{◌≡◌, ℕ, ◌+◌, ◌-◌, ◌%◌, ◌<◌, ◌≤◌, List, [], ◌∷◌, ◌++◌, length, get_or, set, sym, ap, ◌∙◌, ap₂, ⊎_elim, mod-lt, arith, length-append, length-set}
 use lib.ListN.{get_or-append}
 use Rattle.std.proofs.lemmas.List.{get_or-set_same, get_or-set_other, get_or_push}
 use Rattle.std.proofs.lemmas.Bool.{cases_lt}
 use Rattle.scale.specs.Laws.{Ops, Laws}
 use Rattle.logic.specs.Formula.{Formula, wait, reach, span}
-use Rattle.logic.specs.Meaning.{Ends, ends}
-use Rattle.logic.specs.Trace.{Trace, blank, trace, newest, Rising}
+use Rattle.logic.specs.Trace.{blank, trace, newest, Rising}
 use Rattle.logic.proofs.Forget.{Tail, found}
 use Rattle.logic.proofs.Lists.{stays_settled}
 use Rattle.logic.proofs.Settle as Settle
 use Rattle.logic.proofs.Windows.{rising}
-use Rattle.rule.specs.Made.{nodes_of}
 use Rattle.rule.specs.declared.rule.Rule.{Rule}
 use Rattle.sample.specs.Rows.{Fits, clamped}
 use Rattle.sample.specs.declared.row.SampleRow.{SampleRow}
 use Rattle.sample.proofs.Within.{row_stays}
-use Rattle.evaluation.specs.Memory.{Climbs, no_cell, place, cell_at, row_at, window, kept_ends}
-use Rattle.evaluation.specs.Nodes.{Evaluated}
+use Rattle.evaluation.specs.Memory.{place, cell_at, row_at, window, kept_ends}
 use Rattle.evaluation.specs.declared.memory.Cell.{Cell}
 use Rattle.evaluation.proofs.Places.{apart, place_apart, place_earlier}
 use Rattle.world.specs.Steps.{shown, stamp_at}

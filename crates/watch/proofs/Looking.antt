@@ -5,7 +5,7 @@ use Rattle.logic.specs.Meaning.{fails_at, lowest_failing}
 use Rattle.logic.specs.Trace.{blank, trace}
 use Rattle.sample.specs.declared.row.SampleRow.{SampleRow}
 use Rattle.evaluation.specs.Memory.{row_at}
-use Rattle.world.specs.Steps.{accepted, answered, changed, rule_in, shown, with_stamp}
+use Rattle.world.specs.Steps.{answered, changed, rule_in, shown, with_stamp}
 use Rattle.world.specs.Tests.{call_refusal}
 use Rattle.world.specs.World.{World}
 use Rattle.world.specs.declared.answer.Answer.{Answer}

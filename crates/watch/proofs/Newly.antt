@@ -2,13 +2,12 @@
 use Rattle.std.proofs.Common.{◌≡◌, ℕ, zero, suc, ◌+◌, ◌-◌, ◌<◌, ◌≤◌, max, Bool, true, false, cond, not, ◌&&◌, ltb, leb, ◌⊎◌, List, [], ◌∷◌, ◌++◌, length, sym, refl, ap, ◌∙◌, ap₂, inl, inr, ⊎_elim, add-one, arith, length-append}
 use Rattle.std.proofs.lemmas.Bool.{cases_Bool, cases_lt, lt-ltb, le-ltb, le-leb, lt-leb}
 use Rattle.scale.specs.Laws.{Ops, Laws}
-use Rattle.logic.specs.Trace.{trace}
 use Rattle.logic.specs.Meaning.{Ends}
 use Rattle.rule.specs.declared.rule.Rule.{Rule}
 use Rattle.sample.specs.declared.row.SampleRow.{SampleRow}
 use Rattle.evaluation.specs.Memory.{cell_at, kept_ends}
 use Rattle.evaluation.specs.declared.memory.Cell.{Cell}
-use Rattle.world.specs.Steps.{many, shown, settled}
+use Rattle.world.specs.Steps.{many, settled}
 use Rattle.world.specs.Tests.{rule_formula}
 use Rattle.world.proofs.Enough.{rising_first}
 use Rattle.world.proofs.Settling.{over, still}

@@ -1,5 +1,5 @@
 -- Where the last node's cells lie, and parts of answers. Assumes nothing.
-use Rattle.std.proofs.Common.{◌≡◌, ℕ, ◌+◌, ◌-◌, ◌*◌, ◌<◌, ◌≤◌, length, Ok, Err, Result, sym, ap, ◌∙◌, mul_comm, add-mul, arith, length-take-le, MatchResult}
+use Rattle.std.proofs.Common.{◌≡◌, ℕ, ◌+◌, ◌-◌, ◌*◌, ◌<◌, length, Ok, Err, Result, ap, mul_comm, add-mul, arith, length-take-le, MatchResult}
 use Rattle.rule.specs.Made.{nodes_of}
 use Rattle.rule.specs.declared.rule.Rule.{Rule}
 use Rattle.watch.specs.Memory.{last_node}

@@ -1,10 +1,9 @@
 -- The first two tests of most calls, and what they say of memory. Assumes nothing.
-use Rattle.std.proofs.Common.{◌≡◌, ℕ, ◌+◌, ◌-◌, ◌*◌, ◌<◌, ◌≤◌, Bool, true, false, cond, ◌&&◌, length, Some, None, Ok, Err, Option, Result, sym, refl, ap, ◌∙◌, arith}
+use Rattle.std.proofs.Common.{◌≡◌, ℕ, ◌+◌, ◌*◌, ◌≤◌, Bool, true, false, cond, length, Some, Ok, Err, Option, Result, refl, ap, arith}
 use Rattle.std.proofs.lemmas.Bool.{and_parts, eqb-true}
 use Rattle.refusal.specs.declared.Refusal.{Refusal}
 use Rattle.refusal.specs.declared.Refusal.TheVariants as refusal
 use Rattle.rule.specs.Made.{nodes_of}
-use Rattle.rule.specs.declared.rule.Rule.{Rule}
 use Rattle.sample.specs.declared.row.SampleRow.{SampleRow}
 use Rattle.strip.specs.Ring.{Ring}
 use Rattle.world.specs.Tests.{watch_refuses}

@@ -7,10 +7,9 @@ use Rattle.logic.specs.Trace.{blank}
 use Rattle.rule.specs.declared.rule.Rule.{Rule}
 use Rattle.sample.specs.Coming.{rest}
 use Rattle.sample.specs.declared.row.SampleRow.{SampleRow}
-use Rattle.strip.specs.Ring.{Ring, with_row, with_newest, without_oldest, contents}
+use Rattle.strip.specs.Ring.{with_row, with_newest, without_oldest, contents}
 use Rattle.strip.specs.declared.reading.ReadingRow.{ReadingRow}
 use Rattle.evaluation.specs.Memory.{row_at}
-use Rattle.evaluation.specs.declared.memory.Cell.{Cell}
 use Rattle.world.specs.Tests.{call_refusal, watch_refuses, rule_formula}
 use Rattle.world.specs.declared.answer.Answer.{Answer}
 use Rattle.world.specs.declared.answer.Answer.TheVariants as answer

@@ -1,5 +1,5 @@
 -- What lies in memory, and what the tests of each call find there. Assumes nothing.
-use Rattle.std.specs.Prelude.{ℕ, ◌+◌, ◌-◌, ◌*◌, min, Bool, true, false, cond, not, ◌&&◌, ◌||◌, List, [], ◌∷◌, length, Some, None, Option, ◌==◌, nat_le, nat_lt, slice_index_or}
+use Rattle.std.specs.Prelude.{ℕ, ◌-◌, min, Bool, cond, ◌&&◌, ◌||◌, List, length, Some, None, Option, ◌==◌, nat_le, nat_lt, slice_index_or}
 use Rattle.scale.specs.Laws.{Ops}
 use Rattle.logic.specs.Trace.{blank}
 use Rattle.rule.specs.Made.{nodes_of}

@@ -1,5 +1,5 @@
 -- Which worlds, states of the model, memory stands for, and what a call must keep of that. Assumes nothing.
-use Rattle.std.specs.Prelude.{◌≡◌, ℕ, ◌-◌, ◌%◌, ◌<◌, ◌≤◌, true, List, ◌++◌, map, length, Some, None, Option, slice_index, slice_index_or}
+use Rattle.std.specs.Prelude.{◌≡◌, ℕ, ◌-◌, ◌%◌, ◌<◌, ◌≤◌, true, ◌++◌, map, length, Some, None, Option, slice_index, slice_index_or}
 use Rattle.std.specs.List.{AllByRecursion}
 use Rattle.scale.specs.Laws.{Ops}
 use Rattle.logic.specs.Trace.{blank, trace, newest, Rising}
@@ -7,7 +7,7 @@ use Rattle.sample.specs.Limits.{stamp_limit}
 use Rattle.sample.specs.Rows.{Fits}
 use Rattle.strip.specs.Ring.{contents}
 use Rattle.evaluation.specs.Memory.{cell_at, kept_ends}
-use Rattle.world.specs.Steps.{rule_in, accepted, places_in, held, held_count, reading_stamps, shown, step, after, answers}
+use Rattle.world.specs.Steps.{rule_in, accepted, places_in, held, held_count, reading_stamps, shown, step}
 use Rattle.world.specs.World.{Armed, World}
 use Rattle.world.specs.declared.answer.Answer.{Answer}
 use Rattle.world.specs.declared.call.Call.{Call}

@@ -1,4 +1,4 @@
-use Rattle.std.proofs.Common.{◌≡◌, ◌+◌, ◌<◌, ◌≤◌, length, get_or, take, drop, sym, refl, ap, ◌∙◌, subst, arith}
+use Rattle.std.proofs.Common.{◌≡◌, ◌+◌, ◌<◌, length, take, drop, sym, refl, ap, ◌∙◌, subst, arith}
 use Rattle.strip.specs.Ring.{ring_of}
 use Rattle.watch.specs.Calls.{Promise}
 use Rattle.watch.specs.Memory.{memory}

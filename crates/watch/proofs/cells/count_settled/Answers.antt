@@ -1,4 +1,4 @@
-use Rattle.std.proofs.Common.{◌≡◌, ℕ, suc, ◌+◌, ◌-◌, ◌<◌, ◌≤◌, Bool, true, false, cond, sym, ap, ◌∙◌, add-one, arith}
+use Rattle.std.proofs.Common.{◌≡◌, ℕ, suc, ◌+◌, ◌-◌, cond, sym, ap, ◌∙◌, add-one, arith}
 use Rattle.world.specs.Steps.{many}
 use Rattle.watch.specs.Cells.{cell_in, same_ends}
 use Rattle.watch.proofs.Counting.{many_none, many_more, many_most}

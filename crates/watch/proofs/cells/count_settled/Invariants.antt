@@ -1,4 +1,4 @@
-use Rattle.std.proofs.Common.{◌≡◌, ℕ, ◌+◌, ◌-◌, ◌≤◌}
+use Rattle.std.proofs.Common.{◌≡◌, ◌+◌, ◌-◌, ◌≤◌}
 use Rattle.world.specs.Steps.{many}
 use Rattle.watch.specs.Cells.{cell_in, same_ends}
 use Rattle.watch.proofs.cells.count_settled.Given as goal

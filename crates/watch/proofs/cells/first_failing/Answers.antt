@@ -1,5 +1,5 @@
-use Rattle.std.proofs.Common.{◌≡◌, ℕ, ◌+◌, ◌-◌, ◌<◌, ◌≤◌, true, sym, ap, ◌∙◌, arith}
-use Rattle.watch.specs.Cells.{cell_in, fails, lowest}
+use Rattle.std.proofs.Common.{◌≡◌, ℕ, ◌-◌, true, sym, ap, ◌∙◌, arith}
+use Rattle.watch.specs.Cells.{cell_in, fails}
 use Rattle.watch.proofs.Counting.{lowest_here, lowest_nowhere}
 use Rattle.watch.proofs.cells.first_failing.Goals as goal
 

@@ -1,4 +1,4 @@
-use Rattle.std.proofs.Common.{◌≡◌, ℕ, ◌+◌, ◌-◌, ◌*◌, ◌<◌, ◌≤◌, max, List, length, sym, ap, ◌∙◌, ap₂, mul_comm, arith}
+use Rattle.std.proofs.Common.{◌≡◌, ℕ, ◌+◌, ◌-◌, ◌*◌, max, List, length, ◌∙◌, ap₂, mul_comm, arith}
 use Rattle.rule.specs.Made.{nodes_of}
 use Rattle.evaluation.specs.Nodes.{Asked}
 use Rattle.world.specs.Steps.{many}

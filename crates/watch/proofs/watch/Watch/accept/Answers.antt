@@ -1,17 +1,15 @@
-use Rattle.std.proofs.Common.{◌≡◌, ◌+◌, ◌-◌, ◌*◌, ◌<◌, ◌≤◌, min, length, Some, None, sym, refl, ap, ◌∙◌, subst, arith, length-set}
+use Rattle.std.proofs.Common.{◌≡◌, ◌-◌, ◌*◌, min, length, None, sym, refl, ap, ◌∙◌, subst, arith, length-set}
 use Rattle.std.proofs.lemmas.Result.{err_from_is_err_and}
 use Rattle.std.proofs.lemmas.Bool.{eqb-false}
-use Rattle.logic.specs.Formula.{span}
 use Rattle.rule.specs.Made.{nodes_of}
 use Rattle.sample.specs.Limits.{stamp_limit}
 use Rattle.strip.specs.Ring.{Ring, ring_of, push_refusal, pushed}
-use Rattle.world.specs.Tests.{rule_formula}
 use Rattle.watch.specs.Cells.{FirstLater}
 use Rattle.watch.specs.Memory.{last_node, oldest_held}
 use Rattle.watch.specs.Refreshed.{Refreshed}
 use Rattle.watch.proofs.Accepts.{accepting, free_place, with_sample, too_late}
 use Rattle.watch.proofs.Pushing.{pushing_ok, pushing_err, pushed_stays}
-use Rattle.watch.proofs.Readiness.{Fitting, fitting}
+use Rattle.watch.proofs.Readiness.{fitting}
 use Rattle.watch.proofs.watch.Watch.accept.Goals as goal
 
 pub refresh-settled-requires : goal.refresh-settled-requires

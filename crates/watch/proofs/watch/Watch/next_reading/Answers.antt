@@ -1,4 +1,4 @@
-use Rattle.std.proofs.Common.{◌≡◌, length, sym, ◌∙◌, arith}
+use Rattle.std.proofs.Common.{length, sym, ◌∙◌, arith}
 use Rattle.std.proofs.lemmas.Result.{err_from_is_err_and}
 use Rattle.strip.specs.Ring.{ring_of}
 use Rattle.watch.proofs.Readiness.{fitting, ready_ok, ready_refuses, ring_fits}

@@ -1,7 +1,6 @@
-use Rattle.std.proofs.Common.{◌≡◌, ◌+◌, sym, refl, ap, ◌∙◌, subst}
+use Rattle.std.proofs.Common.{◌+◌, sym, refl, ap, ◌∙◌, subst}
 use Rattle.std.proofs.lemmas.Result.{err_from_is_err_and}
 use Rattle.strip.specs.Ring.{ring_of}
-use Rattle.world.specs.Tests.{watch_refuses}
 use Rattle.world.specs.declared.call.Call.TheVariants.{Take}
 use Rattle.watch.specs.Cells.{FirstLater}
 use Rattle.watch.specs.Memory.{memory, oldest_held}
