@@ -1,4 +1,4 @@
-// The opening test for programs in C: a byte array is a pointer and a length there. The header is include/comriep.h.
+// The opening test over a byte slice: number and place of the refusal. The crate record_c hands both to programs in C.
 ghost use Rattle.std.specs.Prelude.{◌≡◌};
 ghost use Rattle.record.specs.Opening.{Opens, Tested, NumberTold, PlaceTold};
 
@@ -14,8 +14,7 @@ fn test_record(bytes: &[u8]) -> Result<Opened, Misfit>
 }
 
 /// The number of the refusal of these bytes, 0 if they open.
-#[unsafe(no_mangle)]
-pub extern "C" fn comriep_record_number(bytes: &[u8]) -> u32
+pub fn comriep_record_number(bytes: &[u8]) -> u32
     ensures told { NumberTold bytes.now result }
     ensures opens { Opens bytes.now → result ≡ 0 }
     ensures only { result ≡ 0 → Opens bytes.now }
@@ -27,8 +26,7 @@ pub extern "C" fn comriep_record_number(bytes: &[u8]) -> u32
 }
 
 /// The place of the refusal of these bytes, 0 if they open.
-#[unsafe(no_mangle)]
-pub extern "C" fn comriep_record_place(bytes: &[u8]) -> u64
+pub fn comriep_record_place(bytes: &[u8]) -> u64
     ensures told { PlaceTold bytes.now result }
     ensures opens { Opens bytes.now → result ≡ 0 }
 {

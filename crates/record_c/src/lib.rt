@@ -1,0 +1,24 @@
+//! The opening test for programs in C: a byte array is a pointer and a length there. The header is include/comriep.h.
+#![tactic(auto)]
+
+ghost use Rattle.std.specs.Prelude.{◌≡◌};
+ghost use Rattle.record.specs.Opening.{NumberTold, Opens, PlaceTold};
+
+/// The number of the refusal of these bytes, 0 if they open.
+#[unsafe(no_mangle)]
+pub extern "C" fn comriep_record_number(bytes: &[u8]) -> u32
+    ensures told { NumberTold bytes.now result }
+    ensures opens { Opens bytes.now → result ≡ 0 }
+    ensures only { result ≡ 0 → Opens bytes.now }
+{
+    record::comriep_record_number(bytes)
+}
+
+/// The place of the refusal of these bytes, 0 if they open.
+#[unsafe(no_mangle)]
+pub extern "C" fn comriep_record_place(bytes: &[u8]) -> u64
+    ensures told { PlaceTold bytes.now result }
+    ensures opens { Opens bytes.now → result ≡ 0 }
+{
+    record::comriep_record_place(bytes)
+}
