@@ -1,9 +1,10 @@
 /*
  * Tests whether a record opens. Build and run it from the top of the repository:
  *
- *     rt staticlib record
- *     cc -std=c11 -Wall -Iinclude -o target/open_record examples/open_record.c target/staticlib/librecord.a
- *     target/open_record < examples/response.record
+ *     (cd crates/record_c && rt lib)
+ *     mkdir -p out && cp crates/record_c/out/librecord_c.a out/librecord.a
+ *     cc -std=c11 -Wall -Iinclude -o out/open_record examples/open_record.c out/librecord.a
+ *     out/open_record < examples/response.record
  */
 #include <inttypes.h>
 #include <stdio.h>

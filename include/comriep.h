@@ -3,7 +3,7 @@
  *
  * A record is a byte array: a rule and the samples of a capture (docs/RECORD.md has the format). Both functions look at
  * `length` bytes from `bytes` on and change nothing; a length of 0 is the empty record, and `bytes` may then be null.
- * Link with the archive that `rt staticlib record` writes.
+ * Link with the archive that `rt lib` writes in crates/record_c (examples/open_record.c has the commands).
  */
 #ifndef COMRIEP_H
 #define COMRIEP_H

@@ -9,7 +9,7 @@ use Rattle.world.proofs.Failing.{lowest_is, lowest_none}
 use Rattle.world.proofs.Holding.{held_is}
 use Rattle.world.proofs.Moves.{by_ways, accepts, is_armed}
 use Rattle.world.proofs.Start.{holds, after_join, grown, Grown}
-use Rattle.world.specs.Law.{Goes_on, world, high_passes, Encloses, Narrows, Alarms, Silent, Saying}
+use Rattle.world.specs.Law.{GoesOn, world, high_passes, Encloses, Narrows, Alarms, Silent, Saying}
 use Rattle.world.specs.Steps.{rule_in, formula_armed, fits_armed, accepted, held, stamp_at, alarming, with_stamp, shown, answered, step}
 use Rattle.world.specs.World.{Sizes, Armed, World}
 use Rattle.world.specs.declared.answer.Answer.{Answer}
@@ -122,7 +122,7 @@ module _ {V : Type 0} {ops : Ops V} (laws : Laws ops) (read : ℕ → ℕ → V)
   silent : Silent ops read s source
   silent cs = no_alarm ops read s (world ops read s source cs)
 
-  goes_on : Goes_on ops read s source
+  goes_on : GoesOn ops read s source
   goes_on cs p l =
       let w = world ops read s source cs in
       let c = meaning.can_continue (rule_in w) w.capture p (holds laws read s source cs).up l in

@@ -122,8 +122,8 @@ module _ {V : Type 0} (ops : Ops V) (read : ℕ → ℕ → V) (s : Sizes) (sour
   got cs = answers ops read s cs (unused source)
 
   -- there is such a continuation at every accepted position, of rows with codes as samples have: nothing is said of an empty set
-  abbrev pub Goes_on : Type 0
-  Goes_on =
+  abbrev pub GoesOn : Type 0
+  GoesOn =
       (cs : List Call) (p : ℕ) →
       p < accepted (world cs) →
       (more : List SampleRow) × AllByRecursion Coded more × RunsBeyond (rule_in (world cs)) (world cs).capture p more
@@ -273,7 +273,7 @@ module _ {V : Type 0} (ops : Ops V) (read : ℕ → ℕ → V) (s : Sizes) (sour
 
   -- what look and alarm say
   pub record Saying : Type 0 where
-    pub goes_on : Goes_on
+    pub goes_on : GoesOn
     pub encloses : Encloses
     pub narrows : Narrows
     pub alarms : Alarms
