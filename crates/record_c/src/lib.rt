@@ -22,3 +22,27 @@ pub extern "C" fn comriep_record_place(bytes: &[u8]) -> u64
 {
     record::comriep_record_place(bytes)
 }
+
+#[cfg(test)]
+mod tests {
+    use super::*;
+
+    /// The rule of one node, true, and no sample; the same with a byte too many; half of it; and no byte at all.
+    #[test]
+    fn answers(rt: HostRuntime) {
+        let record = [1, 0, 0, 0, 0, 0, 0, 0, 0, 0, 0, 0, 9];
+        for (length, number, place) in [(12, 0, 0), (13, 2, 12), (6, 1, 1), (0, 1, 0)] {
+            let bytes = &record[..length];
+            assert_eq!(rt;
+                comriep_record_number(bytes),
+                number,
+                "number of {length} bytes"
+            );
+            assert_eq!(rt;
+                comriep_record_place(bytes),
+                place,
+                "place of {length} bytes"
+            );
+        }
+    }
+}

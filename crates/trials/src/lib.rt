@@ -19,3 +19,5 @@ mod samples;
 mod scales;
 #[cfg(test)]
 mod sources;
+#[cfg(test)]
+mod watches;

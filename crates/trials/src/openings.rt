@@ -11,7 +11,7 @@ const BEFORE: [u64; 10] = [1, 2, 0, 7, 0, 5, 0, 0, 1, 5];
 
 /// Opens the record over another rule. What is expected: the answer, of a record 0, its samples and their place, of a refusal its
 /// number, its place and 0; then how many nodes the rule has that is there after, and its wait. Refused, that is the other rule. The
-/// functions for C agree.
+/// two functions that answer number and place alone agree.
 fn check_opening(
     rt: &impl Abort,
     heap: Global,
