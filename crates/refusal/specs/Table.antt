@@ -1,5 +1,6 @@
 -- The table of refusals: each has a number and a word, and a source's fault its own number and place. Assumes nothing.
-use Rattle.std.specs.Prelude.{ℕ, List, codes}
+use Rattle.std.specs.Prelude.{ℕ, List, ◌++◌, codes, decimal}
+use Rattle.refusal.specs.declared.Misfit.{Misfit}
 use Rattle.refusal.specs.declared.Refusal.{Refusal}
 use Rattle.refusal.specs.declared.Refusal.TheVariants as refusal
 
@@ -41,3 +42,7 @@ word_of r = (table r).word
 
 abbrev pub place_of : Refusal → ℕ
 place_of r = (table r).place
+
+-- the line that tells of a misfit
+abbrev pub misfit_text : Misfit → List ℕ
+misfit_text m = codes "refused " ++ (decimal (number_of m.refusal) ++ (codes " at " ++ (decimal m.place ++ (codes ": " ++ word_of m.refusal))))

@@ -2,11 +2,14 @@
 #![tactic(auto)]
 
 ghost use Rattle.std.specs.Prelude.{◌≡◌, Some};
-ghost use Rattle.refusal.specs.Table.{number_of, word_of, place_of};
+ghost use Rattle.refusal.specs.Table.{number_of, word_of, place_of, misfit_text};
+ghost use Rattle.refusal.specs.declared.Refusal.TheVariants.{Fault as OfFault};
 
+use std::error::Error;
 use std::fmt;
 
-/// What ended a source before its time: the source's own number and a byte place.
+/// What ended a source before its time: the source's own number and a byte place. Each source numbers its faults as it likes, so the number
+/// is of no enum.
 #[derive(Clone, Copy, PartialEq, Eq, Debug)]
 pub struct Fault {
     pub number: u32,
@@ -66,32 +69,51 @@ pub struct Misfit {
 }
 
 impl Refusal {
+    /// The refusal at a place.
+    pub fn at(self, place: u64) -> Misfit
+        ensures { result ≡ record { refusal = self; place = place } }
+    {
+        Misfit {
+            refusal: self,
+            place,
+        }
+    }
+
+    /// The number and the word of the refusal, the table in the code. Numbers and words are the product's format: a program in C and a line
+    /// of output have them.
+    fn entry(self) -> (u32, &'static str)
+        ensures number { result.0 ≡ number_of self }
+        ensures word { result.1.now ≡ word_of self }
+    {
+        match self {
+            Refusal::Cut => (1, "cut"),
+            Refusal::Surplus => (2, "surplus"),
+            Refusal::Count => (3, "count"),
+            Refusal::Node => (4, "node"),
+            Refusal::Span => (5, "span"),
+            Refusal::Range => (6, "range"),
+            Refusal::Armed => (7, "armed"),
+            Refusal::Memory => (8, "memory"),
+            Refusal::Idle => (9, "idle"),
+            Refusal::Full => (10, "full"),
+            Refusal::Dry => (11, "dry"),
+            Refusal::Backward => (12, "backward"),
+            Refusal::Unseen => (13, "unseen"),
+            Refusal::Gone => (14, "gone"),
+            Refusal::Open => (15, "open"),
+            Refusal::Bare => (16, "bare"),
+            Refusal::TrayFull => (17, "tray full"),
+            Refusal::TrayEmpty => (18, "tray empty"),
+            Refusal::Pattern => (19, "pattern"),
+            Refusal::Fault(fault) => (fault.number, "fault"),
+        }
+    }
+
     /// The number of the refusal. A source's fault has its own.
     pub fn number(self) -> u32
         ensures { result ≡ number_of self }
     {
-        match self {
-            Refusal::Cut => 1,
-            Refusal::Surplus => 2,
-            Refusal::Count => 3,
-            Refusal::Node => 4,
-            Refusal::Span => 5,
-            Refusal::Range => 6,
-            Refusal::Armed => 7,
-            Refusal::Memory => 8,
-            Refusal::Idle => 9,
-            Refusal::Full => 10,
-            Refusal::Dry => 11,
-            Refusal::Backward => 12,
-            Refusal::Unseen => 13,
-            Refusal::Gone => 14,
-            Refusal::Open => 15,
-            Refusal::Bare => 16,
-            Refusal::TrayFull => 17,
-            Refusal::TrayEmpty => 18,
-            Refusal::Pattern => 19,
-            Refusal::Fault(fault) => fault.number,
-        }
+        self.entry().0
     }
 
     /// The byte place of a source's fault, and 0 for every other refusal.
@@ -108,28 +130,15 @@ impl Refusal {
     pub fn word(self) -> &'static str
         ensures { result.now ≡ word_of self }
     {
-        match self {
-            Refusal::Cut => "cut",
-            Refusal::Surplus => "surplus",
-            Refusal::Count => "count",
-            Refusal::Node => "node",
-            Refusal::Span => "span",
-            Refusal::Range => "range",
-            Refusal::Armed => "armed",
-            Refusal::Memory => "memory",
-            Refusal::Idle => "idle",
-            Refusal::Full => "full",
-            Refusal::Dry => "dry",
-            Refusal::Backward => "backward",
-            Refusal::Unseen => "unseen",
-            Refusal::Gone => "gone",
-            Refusal::Open => "open",
-            Refusal::Bare => "bare",
-            Refusal::TrayFull => "tray full",
-            Refusal::TrayEmpty => "tray empty",
-            Refusal::Pattern => "pattern",
-            Refusal::Fault(_) => "fault",
-        }
+        self.entry().1
+    }
+}
+
+impl From<Fault> for Refusal {
+    ghost from_gives = { λ fault refusal. refusal ≡ OfFault fault };
+
+    fn from(fault: Fault) -> Refusal {
+        Self::Fault(fault)
     }
 }
 
@@ -137,7 +146,21 @@ impl fmt::Display for Refusal {
     ghost output = { λ r. Some (word_of r) };
 
     fn fmt<W: fmt::Write>(&self, f: &mut fmt::Formatter<W>) -> fmt::Result {
-        let refusal = *self;
-        f.pad(refusal.word())
+        f.pad(self.word())
     }
 }
+
+impl Error for Refusal {}
+
+/// One line: the number of the refusal, its place and its word.
+impl fmt::Display for Misfit {
+    ghost output = { λ m. Some (misfit_text m) };
+
+    fn fmt<W: fmt::Write>(&self, f: &mut fmt::Formatter<W>) -> fmt::Result {
+        let Misfit { refusal, place } = *self;
+        let number = refusal.number();
+        write!(f, "refused {number} at {place}: {refusal}")
+    }
+}
+
+impl Error for Misfit {}

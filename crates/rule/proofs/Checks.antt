@@ -18,19 +18,20 @@ reads_more rows ns i n w inv here =
     (λ k l. let ne : k ≢ i = omega arith in rw get_or-set_other (inv k l))
     (rw get_or-set_same here)
 
-module _ (rows : List NodeRow) (ns : List Node) (m : ℕ) (e : m ≡ length rows) (w : m ≤ length ns) (inv : (k : ℕ) → k < length rows → Reads rows ns k) where
-  pub reads_sound : Sound (take m ns)
+module _ (rows : List NodeRow) (ns : List Node) (w : length rows ≤ length ns) (inv : (k : ℕ) → k < length rows → Reads rows ns k) where
+  pub reads_sound : Sound (take (length rows) ns)
   reads_sound k h =
-      let l : k < m = omega (arith, simp length-take at h) in
-      rw get_or-take (inv k (omega arith)).1
+      let l : k < length rows = omega (arith, simp length-take at h) in
+      rw get_or-take (inv k l).1
 
-  pub reads_rows : map row_of (take m ns) ≡ rows
+  pub reads_rows : map row_of (take (length rows) ns) ≡ rows
   reads_rows =
-      let long : length (map row_of (take m ns)) ≡ length rows = length-map (take m ns) row_of ∙ simp length-take (omega arith) in
+      let nodes = take (length rows) ns in
+      let long : length (map row_of nodes) ≡ length rows = length-map nodes row_of ∙ simp length-take (omega arith) in
       same_lists _ _ long (λ k d h.
-      let l : k < m = omega arith in
-      get_or_default (map row_of (take m ns)) k d (row_of True) h
-      ∙ get_or-map row_of (take m ns) k True
-      ∙ ap row_of (get_or-take m ns k True l)
-      ∙ (inv k (omega arith)).0
-      ∙ get_or_default rows k (row_of True) d (omega arith))
+      let l : k < length rows = omega arith in
+      get_or_default (map row_of nodes) k d (row_of True) h
+      ∙ get_or-map row_of nodes k True
+      ∙ ap row_of (get_or-take (length rows) ns k True l)
+      ∙ (inv k l).0
+      ∙ get_or_default rows k (row_of True) d l)

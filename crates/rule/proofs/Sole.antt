@@ -22,16 +22,16 @@ at_one rows i k b n b' n' =
 
 pub sole : (rows : List NodeRow) (m m' : Misfit) → Refused rows m → Refused rows m' → m ≡ m'
 sole rows m m' (wrong_count e c) (wrong_count e' c') = e ∙ sym e'
-sole rows m m' (wrong_count e (inl c)) (no_node i e' l h b n) = absurd (let z : ⊥ = omega arith in z)
-sole rows m m' (wrong_count e (inr c)) (no_node i e' l h b n) = absurd (let z : ⊥ = omega arith in z)
-sole rows m m' (wrong_count e (inl c)) (too_far ns e' p l r s f) = absurd (let z : ⊥ = omega arith in z)
-sole rows m m' (wrong_count e (inr c)) (too_far ns e' p l r s f) = absurd (let z : ⊥ = omega arith in z)
-sole rows m m' (no_node i e l h b n) (wrong_count e' (inl c)) = absurd (let z : ⊥ = omega arith in z)
-sole rows m m' (no_node i e l h b n) (wrong_count e' (inr c)) = absurd (let z : ⊥ = omega arith in z)
+sole rows m m' (wrong_count e (inl c)) (no_node i e' l h b n) = absurd (omega arith)
+sole rows m m' (wrong_count e (inr c)) (no_node i e' l h b n) = absurd (omega arith)
+sole rows m m' (wrong_count e (inl c)) (too_far ns e' p l r s f) = absurd (omega arith)
+sole rows m m' (wrong_count e (inr c)) (too_far ns e' p l r s f) = absurd (omega arith)
+sole rows m m' (no_node i e l h b n) (wrong_count e' (inl c)) = absurd (omega arith)
+sole rows m m' (no_node i e l h b n) (wrong_count e' (inr c)) = absurd (omega arith)
 sole rows m m' (no_node i e l h b n) (no_node k e' l' h' b' n') =
     let z : i ≡ k = at_one rows i k b n b' n' in cc
 sole rows m m' (no_node i e l h b n) (too_far ns e' p l' r s f) = absurd (n (stands rows ns r s i h))
-sole rows m m' (too_far ns e p l r s f) (wrong_count e' (inl c)) = absurd (let z : ⊥ = omega arith in z)
-sole rows m m' (too_far ns e p l r s f) (wrong_count e' (inr c)) = absurd (let z : ⊥ = omega arith in z)
+sole rows m m' (too_far ns e p l r s f) (wrong_count e' (inl c)) = absurd (omega arith)
+sole rows m m' (too_far ns e p l r s f) (wrong_count e' (inr c)) = absurd (omega arith)
 sole rows m m' (too_far ns e p l r s f) (no_node i e' l' h b n) = absurd (n (stands rows ns r s i h))
 sole rows m m' (too_far ns e p l r s f) (too_far ns' e' p' l' r' s' f') = e ∙ sym e'

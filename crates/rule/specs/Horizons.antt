@@ -1,5 +1,5 @@
 -- How far each node looks, from the nodes before it, as the code works it out. Assumes nothing.
-use Rattle.std.specs.Prelude.{ℕ, ◌+◌, ◌-◌, ◌*◌, max, List, length, slice_index_or}
+use Rattle.std.specs.Prelude.{ℕ, ◌+◌, ◌-◌, ◌*◌, ◌≤◌, max, List, length, slice_index_or}
 use Rattle.rule.specs.Limits.{most_nodes, largest_bound}
 use Rattle.rule.specs.Tables.{tabled}
 use Rattle.rule.specs.declared.horizon.Horizon.{Horizon}
@@ -12,6 +12,10 @@ none = record { wait = 0; reach = 0 }
 -- no node of a rule looks further
 abbrev pub farthest : ℕ
 farthest = most_nodes * largest_bound
+
+-- it looks no further than m either way
+abbrev pub Within : ℕ → Horizon → Type 0
+Within m x = (x.wait ≤ m) × (x.reach ≤ m)
 
 abbrev pub farther : Horizon → Horizon → Horizon
 farther x y = record { wait = max x.wait y.wait; reach = max x.reach y.reach }

@@ -1,13 +1,14 @@
 // The nine kinds of node, and the plain row that each is written as.
-ghost use Rattle.std.specs.Prelude.{◌≡◌};
+ghost use Rattle.std.specs.Prelude.{◌≡◌, Some};
 ghost use Rattle.rule.specs.Rows.{row_of, Read};
+ghost use Rattle.rule.specs.Texts.{node_text};
 
 use scale::Code;
 use std::fmt;
 
 /// A node of a rule. Operands, `first` and `second`, are numbers of nodes, in a rule of earlier ones; bounds, `low` and `high`, are in
-/// ticks.
-#[derive(Clone, Copy)]
+/// ticks. Numbers and no boxes: there is no heap, a record has this table, and nodes may share an operand.
+#[derive(Clone, Copy, PartialEq, Eq, Debug)]
 pub enum Node {
     True,
     Level {
@@ -49,7 +50,8 @@ pub enum Node {
     },
 }
 
-/// The plain row of a node, with no promise that a node has it.
+/// The plain row of a node, with no promise that a node has it. Its kind is a number, as it stands in a record: `Node::row` and
+/// `Node::from_row` have the table of kinds, one each way.
 #[derive(Clone, Copy, PartialEq, Eq, Debug)]
 pub struct NodeRow {
     pub kind: u8,
@@ -66,82 +68,43 @@ impl Node {
     /// The largest bound, in ticks.
     pub const LARGEST_BOUND: u16 = 4095;
 
-    /// The node that a row stands for at a place of a rule: none where no node that may stand there has this row.
+    /// The node that a row stands for at a place of a rule: none where no node that may stand there has this row. No `TryFrom`, since the place
+    /// counts too.
     pub fn from_row(place: u8, row: NodeRow) -> Option<Node>
         ensures { Read place row result }
     {
-        match row {
-            NodeRow {
-                kind: 0,
-                first: 0,
-                second: 0,
-                low: 0,
-                high: 0,
-            } => Some(Node::True),
-            NodeRow {
-                kind: 1,
-                first: channel @ 0..=Node::LARGEST_CHANNEL,
-                second: 0,
-                low: level @ 0..=Code::LARGEST,
-                high: 0,
-            } => Some(Node::Level {
-                channel,
-                level: Code::nearest(level),
+        let NodeRow {
+            kind,
+            first,
+            second,
+            low,
+            high,
+        } = row;
+        let first_earlier = first < place;
+        let both_earlier = first_earlier && second < place;
+        let bounded = low <= high && high <= Node::LARGEST_BOUND;
+        match (kind, first, second, low, high) {
+            (0, 0, 0, 0, 0) => Some(Node::True),
+            (1, 0..=Node::LARGEST_CHANNEL, 0, _, 0) => Some(Node::Level {
+                channel: first,
+                level: Code::new(low).ok()?,
             }),
-            NodeRow {
-                kind: 2,
+            (2, _, 0, 0, 0) if first_earlier => Some(Node::Not { first }),
+            (3, _, _, 0, 0) if both_earlier => Some(Node::Or { first, second }),
+            (4, _, _, 0, 0) if both_earlier => Some(Node::And { first, second }),
+            (5, _, 0, _, _) if first_earlier && bounded => Some(Node::Next { first, low, high }),
+            (6, _, 0, _, _) if first_earlier && bounded => Some(Node::Yesterday {
                 first,
-                second: 0,
-                low: 0,
-                high: 0,
-            } if first < place => Some(Node::Not { first }),
-            NodeRow {
-                kind: 3,
-                first,
-                second,
-                low: 0,
-                high: 0,
-            } if first < place && second < place => Some(Node::Or { first, second }),
-            NodeRow {
-                kind: 4,
-                first,
-                second,
-                low: 0,
-                high: 0,
-            } if first < place && second < place => Some(Node::And { first, second }),
-            NodeRow {
-                kind: 5,
-                first,
-                second: 0,
                 low,
-                high: high @ 0..=Node::LARGEST_BOUND,
-            } if first < place && low <= high => Some(Node::Next { first, low, high }),
-            NodeRow {
-                kind: 6,
-                first,
-                second: 0,
-                low,
-                high: high @ 0..=Node::LARGEST_BOUND,
-            } if first < place && low <= high => Some(Node::Yesterday { first, low, high }),
-            NodeRow {
-                kind: 7,
-                first,
-                second,
-                low,
-                high: high @ 0..=Node::LARGEST_BOUND,
-            } if first < place && second < place && low <= high => Some(Node::Until {
+                high,
+            }),
+            (7, ..) if both_earlier && bounded => Some(Node::Until {
                 first,
                 second,
                 low,
                 high,
             }),
-            NodeRow {
-                kind: 8,
-                first,
-                second,
-                low,
-                high: high @ 0..=Node::LARGEST_BOUND,
-            } if first < place && second < place && low <= high => Some(Node::Since {
+            (8, ..) if both_earlier && bounded => Some(Node::Since {
                 first,
                 second,
                 low,
@@ -155,50 +118,52 @@ impl Node {
     pub fn row(self) -> NodeRow
         ensures { result ≡ row_of self }
     {
-        match self {
-            Node::True => row_of(0, 0, 0, 0, 0),
-            Node::Level { channel, level } => row_of(1, channel, 0, level.value(), 0),
-            Node::Not { first } => row_of(2, first, 0, 0, 0),
-            Node::Or { first, second } => row_of(3, first, second, 0, 0),
-            Node::And { first, second } => row_of(4, first, second, 0, 0),
-            Node::Next { first, low, high } => row_of(5, first, 0, low, high),
-            Node::Yesterday { first, low, high } => row_of(6, first, 0, low, high),
+        let (kind, first, second, low, high) = match self {
+            Node::True => (0, 0, 0, 0, 0),
+            Node::Level { channel, level } => (1, channel, 0, level.value(), 0),
+            Node::Not { first } => (2, first, 0, 0, 0),
+            Node::Or { first, second } => (3, first, second, 0, 0),
+            Node::And { first, second } => (4, first, second, 0, 0),
+            Node::Next { first, low, high } => (5, first, 0, low, high),
+            Node::Yesterday { first, low, high } => (6, first, 0, low, high),
             Node::Until {
                 first,
                 second,
                 low,
                 high,
-            } => row_of(7, first, second, low, high),
+            } => (7, first, second, low, high),
             Node::Since {
                 first,
                 second,
                 low,
                 high,
-            } => row_of(8, first, second, low, high),
+            } => (8, first, second, low, high),
+        };
+        NodeRow {
+            kind,
+            first,
+            second,
+            low,
+            high,
         }
     }
 }
 
-fn row_of(kind: u8, first: u8, second: u8, low: u16, high: u16) -> NodeRow
-    ensures { result ≡ record { kind = kind; first = first; second = second; low = low; high = high } }
-{
-    NodeRow {
-        kind,
-        first,
-        second,
-        low,
-        high,
+impl From<Node> for NodeRow {
+    ghost from_gives = { λ node row. row ≡ row_of node };
+
+    fn from(node: Node) -> NodeRow {
+        node.row()
     }
 }
 
 impl fmt::Display for Node {
+    ghost output = { λ n. Some (node_text n) };
+
     fn fmt<W: fmt::Write>(&self, f: &mut fmt::Formatter<W>) -> fmt::Result {
         match *self {
             Node::True => write!(f, "true"),
-            Node::Level { channel, level } => {
-                let level = level.value();
-                write!(f, "channel {channel} at least {level}")
-            }
+            Node::Level { channel, level } => write!(f, "channel {channel} at least {level}"),
             Node::Not { first } => write!(f, "not {first}"),
             Node::Or { first, second } => write!(f, "{first} or {second}"),
             Node::And { first, second } => write!(f, "{first} and {second}"),

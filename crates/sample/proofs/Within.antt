@@ -1,19 +1,9 @@
--- Rows within their limits: clamping makes them so, and leaves those that are as they are. Assumes nothing.
-use Rattle.std.proofs.Common.{◌≡◌, ℕ, suc, ◌-◌, ◌<◌, ◌≤◌, min, List, [], ◌∷◌, map, length, get_or, refl, ⊎_elim, arith}
-use lib.ListN.{get_or-map}
+-- Clamping leaves a row that is within its limits as it is. Assumes nothing.
+use Rattle.std.proofs.Common.{◌≡◌, ℕ, suc, ◌-◌, ◌≤◌, min, List, [], ◌∷◌, map, get_or, refl, arith}
 use Rattle.scale.specs.Limits.{largest_code}
-use Rattle.std.proofs.lemmas.List.{get_or_past}
-use Rattle.std.proofs.lemmas.Bool.{cases_lt}
 use Rattle.sample.specs.Limits.{stamp_limit}
 use Rattle.sample.specs.Rows.{Fits, nearest, clamped}
 use Rattle.sample.specs.declared.row.SampleRow.{SampleRow}
-
--- past the last code the default, 0, is within too
-pub all_within : (codes : List ℕ) (n : ℕ) → length codes ≤ n → ((k : ℕ) → k < n → get_or codes k 0 ≤ largest_code) → (k : ℕ) → get_or codes k 0 ≤ largest_code
-all_within codes n long below k = ⊎_elim (below k) (λ past. omega (arith, get_or_past codes k 0 (omega arith))) (cases_lt k n)
-
-pub clamped_within : (codes : List ℕ) (k : ℕ) → get_or (map nearest codes) k 0 ≤ largest_code
-clamped_within codes k = omega (arith, get_or-map nearest codes k 0)
 
 pub codes_stay : (codes : List ℕ) → ((k : ℕ) → get_or codes k 0 ≤ largest_code) → map nearest codes ≡ codes
 codes_stay [] within = refl

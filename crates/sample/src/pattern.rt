@@ -1,6 +1,6 @@
 /// A square wave to test a setup with: `count` samples, one for each tick from `first` on. Channel 0 starts high and changes level every
 /// `half_period` samples; the other channels stay 0.
-#[derive(Clone, Copy)]
+#[derive(Clone, Copy, PartialEq, Eq, Debug)]
 pub struct Pattern {
     /// The stamp of sample 0, below `Sample::STAMP_LIMIT`; that of the last sample is below it too.
     pub first: u64,

@@ -4,6 +4,11 @@ use Rattle.scale.specs.Laws.{Ops}
 use Rattle.scale.specs.declared.pass_fail.PassFail.{PassFail}
 use Rattle.scale.specs.declared.pass_fail.PassFail.TheVariants.{Fail, Pass}
 
+-- what a test says: pass where it is true
+abbrev pub verdict_of : Bool → PassFail
+verdict_of false = Fail
+verdict_of true = Pass
+
 abbrev either : PassFail → PassFail → PassFail
 either Fail b = b
 either Pass b = Pass

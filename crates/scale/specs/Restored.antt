@@ -1,4 +1,4 @@
--- What a number restores: the margin that has it, or else the worst. Assumes nothing.
+-- What a number restores: the margin that has it, or else the worst. Two theorems about the definition, for its reader; no proof cites them. Assumes nothing.
 use Rattle.std.specs.Prelude.{◌≡◌, Bool, true, false, ℤ, refl}
 use Rattle.std.proofs.Common.{le-leb, eq-eqb}
 use Rattle.std.proofs.lemmas.Bool.{both_ways}

@@ -14,7 +14,7 @@ pub use pass_fail::PassFail;
 
 /// A scale: a bounded distributive lattice with an involution (a De Morgan algebra), a passing test and a stored form.
 pub trait Scale: Copy {
-    // What the functions compute.
+    // What the functions compute. None has a body here, as `or` by `max` could: the order of a scale need not be total.
     ghost ops: { Ops Self };
 
     /// The least value that is at least both: the join.

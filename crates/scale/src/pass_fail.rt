@@ -1,13 +1,27 @@
-ghost use Rattle.scale.specs.PassFails.{pass_fail, pass_fail_reading};
+ghost use Rattle.scale.specs.PassFails.{pass_fail, pass_fail_reading, verdict_of};
 ghost use Rattle.std.proofs.Common.{rules};
+ghost use Rattle.std.specs.Prelude.{◌≡◌};
 
 use crate::{Code, Scale, TestScale};
 
 /// The scale of the two verdicts.
-#[derive(Clone, Copy, PartialEq, Eq, Debug)]
+#[derive(Clone, Copy, PartialEq, Eq, PartialOrd, Ord, Debug)]
 pub enum PassFail {
     Fail,
     Pass,
+}
+
+/// The verdict of a test: pass where it is true.
+impl From<bool> for PassFail {
+    ghost from_gives = { λ passed verdict. verdict ≡ verdict_of passed };
+
+    fn from(passed: bool) -> PassFail {
+        if passed {
+            PassFail::Pass
+        } else {
+            PassFail::Fail
+        }
+    }
 }
 
 /// The logical operations. Pass is kept as 1 and fail as 0; any number but 1 restores fail.
@@ -17,17 +31,11 @@ impl Scale for PassFail {
     ghost lawful = { Prim.search rules };
 
     fn or(self, other: PassFail) -> PassFail {
-        match self {
-            PassFail::Fail => other,
-            PassFail::Pass => PassFail::Pass,
-        }
+        self.max(other)
     }
 
     fn and(self, other: PassFail) -> PassFail {
-        match self {
-            PassFail::Fail => PassFail::Fail,
-            PassFail::Pass => other,
-        }
+        self.min(other)
     }
 
     fn turn_over(self) -> PassFail {
@@ -53,6 +61,7 @@ impl Scale for PassFail {
         self == PassFail::Pass
     }
 
+    // The stored form is a number on every scale, since it lies in lent memory.
     fn kept(self) -> i64 {
         match self {
             PassFail::Fail => 0,
@@ -61,11 +70,7 @@ impl Scale for PassFail {
     }
 
     fn restored(number: i64) -> PassFail {
-        if number == 1 {
-            PassFail::Pass
-        } else {
-            PassFail::Fail
-        }
+        PassFail::from(number == 1)
     }
 }
 
@@ -74,10 +79,6 @@ impl TestScale for PassFail {
     ghost reading = { pass_fail_reading };
 
     fn read(code: Code, level: Code) -> PassFail {
-        if code.value() >= level.value() {
-            PassFail::Pass
-        } else {
-            PassFail::Fail
-        }
+        PassFail::from(code >= level)
     }
 }
