@@ -1,18 +1,22 @@
 -- The samples of a record, read place after place. Assumes nothing.
-use Rattle.std.proofs.Common.{◌≡◌, ℕ, zero, suc, ◌+◌, ◌-◌, ◌*◌, ◌/◌, ◌%◌, ◌<◌, ◌≤◌, min, Bool, true, false, cond, ltb, List, [], ◌∷◌, ◌++◌, length, get_or, take, drop, sym, refl, ap, ◌∙◌, subst, inl, inr, ⊎_elim, append_assoc, zero-le, arith, length-drop, length-take}
+use Rattle.std.proofs.Common.{◌≡◌, ℕ, zero, suc, ◌+◌, ◌-◌, ◌*◌, ◌/◌, ◌%◌, ◌≤◌, min, Bool, true, false, cond, ltb, List, [], ◌∷◌, ◌++◌, length, get_or, take, drop, Ok, Err, Result, sym, refl, ap, ◌∙◌, subst, inl, inr, append_assoc, zero-le, arith, length-drop, length-take}
 use borrow.Author.Tests.{both_ways}
-use Rattle.std.proofs.lemmas.Bool.{and_from, and_parts, lt-ltb, le-leb, ltb-true, ltb-false, leb-true, le-ltb, cases_lt}
+use Rattle.std.proofs.lemmas.Bool.{and_from, and_parts, lt-ltb, le-leb, ltb-true, ltb-false, leb-true}
 use Rattle.std.proofs.lemmas.List.{drop_all}
+use Rattle.std.specs.Result.{IsErrAnd, MatchResult}
+use Rattle.refusal.specs.declared.Refusal.{Refusal}
 use Rattle.refusal.specs.declared.Refusal.TheVariants.{Cut, Range}
 use Rattle.scale.specs.Limits.{largest_code}
-use Rattle.sample.specs.Coming.{Coming}
+use Rattle.sample.specs.Coming.{Coming, first, rest}
 use Rattle.sample.specs.Rows.{Fits}
+use Rattle.sample.specs.declared.ending.Ending.{Ending}
 use Rattle.sample.specs.declared.ending.Ending.TheVariants.{Dry}
 use Rattle.sample.specs.declared.row.SampleRow.{SampleRow}
+use Rattle.sample.specs.declared.sample.Sample.{Sample}
 use Rattle.record.specs.Coming.{Comes, BrokenFirst}
 use Rattle.record.specs.Format.{low_first, two, eight, each, sample_bytes}
-use Rattle.record.specs.Reading.{number, row_of, codes_fit, row_fits, fault, coming_counted, coming_from}
-use Rattle.record.proofs.Bytes.{elements_are, Bytes, bytes_take, bytes_drop, written, sample_parts, cut}
+use Rattle.record.specs.Reading.{number, row_of, codes_fit, row_fits, fault, coming_counted, coming_from, Seen}
+use Rattle.record.proofs.Bytes.{elements_are, elements_take, Bytes, bytes_take, bytes_drop, sample_written, cut}
 
 number_written : (w n : ℕ) → number (low_first w n) ≡ n
 number_written zero n = omega arith
@@ -20,7 +24,7 @@ number_written (suc w) n = ap (λ m. n % 256 + 256 * m) (number_written w (n / 2
 
 pub row_written : (s : ℕ) (cs : List ℕ) → length cs ≡ 4 → row_of (eight s ++ each two cs) ≡ record { stamp = s; codes = cs }
 row_written s cs e =
-    subst (λ cs. row_of (eight s ++ each two cs) ≡ record { stamp = s; codes = cs }) (sym (elements_are cs 0 4 e))
+    subst (λ cs. row_of (eight s ++ each two cs) ≡ record { stamp = s; codes = cs }) (sym (elements_are cs 4 e))
     (λ i. record {
       stamp = number_written 7 s i;
       codes = number_written 1 (get_or cs 0 0) i ∷ number_written 1 (get_or cs 1 0) i ∷ number_written 1 (get_or cs 2 0) i ∷ number_written 1 (get_or cs 3 0) i ∷ [];
@@ -44,29 +48,13 @@ pub row_tested : (row : SampleRow) → Fits row → row_fits row ≡ true
 row_tested row h = and_from _ _ (lt-ltb _ _ h.early) (codes_tested row.codes h.within)
 
 pub row_failed : (row : SampleRow) → (Fits row → ⊥) → row_fits row ≡ false
-row_failed row h = go (row_fits row) refl
-  where
-    go : (b : Bool) → row_fits row ≡ b → row_fits row ≡ false
-    go true e = absurd (h (row_told row e))
-    go false e = e
+row_failed row h = grind (arith, row_told)
 
--- what comes from a place with no whole sample left, and with one
+-- what comes from a place with a whole sample left
 module _ (bs : List ℕ) (at : ℕ) where
-  pub comes_dry : length bs ≤ at → coming_from bs at ≡ record { samples = []; ending = Dry }
-  comes_dry h =
-      let none : (length bs - at) / 16 ≡ 0 = omega arith in
-      let past : ltb at (length bs) ≡ false = le-ltb _ _ h in
-      ap (λ n. coming_counted bs n at) none ∙ ap (λ b. record { samples = []; ending = cond b (fault Cut at) Dry }) past
-
-  pub comes_cut : at < length bs → length bs - at < 16 → coming_from bs at ≡ record { samples = []; ending = fault Cut at }
-  comes_cut h l =
-      let none : (length bs - at) / 16 ≡ 0 = omega arith in
-      let more : ltb at (length bs) ≡ true = lt-ltb _ _ h in
-      ap (λ n. coming_counted bs n at) none ∙ ap (λ b. record { samples = []; ending = cond b (fault Cut at) Dry }) more
-
-  module _ (row : SampleRow) (w : ℕ) (sixteen : w ≡ 16) (h : at + 16 ≤ length bs) (e : sample_bytes row ≡ take w (drop at bs)) (four : length row.codes ≡ 4) where
+  module _ (row : SampleRow) (h : at + 16 ≤ length bs) (e : sample_bytes row ≡ take 16 (drop at bs)) (four : length row.codes ≡ 4) where
     row_is : row_of (take 16 (drop at bs)) ≡ row
-    row_is = ap row_of (ap (λ n. take n (drop at bs)) (sym sixteen) ∙ sym e) ∙ row_written row.stamp row.codes four
+    row_is = ap row_of (sym e) ∙ row_written row.stamp row.codes four
 
     abbrev choose : SampleRow → Bool → Coming
     choose r b = cond b (record { samples = r ∷ (coming_from bs (at + 16)).samples; ending = (coming_from bs (at + 16)).ending }) (record { samples = []; ending = fault Range at })
@@ -82,15 +70,20 @@ module _ (bs : List ℕ) (at : ℕ) where
     pub comes_broken : (Fits row → ⊥) → coming_from bs at ≡ record { samples = []; ending = fault Range at }
     comes_broken f = comes_one ∙ ap (choose row) (row_failed row f)
 
--- bytes, sixteen by sixteen
-module _ (bs : List ℕ) (small : Bytes bs) where
-  part : (w i : ℕ) → i + suc w ≤ length bs → low_first w (number (take (suc w) (drop i bs))) ≡ take (suc w) (drop i bs)
-  part w i h =
-      written w (take (suc w) (drop i bs)) (simp (length-take, length-drop) (omega arith)) (bytes_take (suc w) (drop i bs) (bytes_drop i bs small))
+    -- the answer there
+    pub seen : {P : Refusal → Ending → Type 0} (made : Result Sample Refusal) (a : Result Sample Ending) → MatchResult made (λ sample. sample.row ≡ row) (λ why. (why ≡ Range) × (Fits row → ⊥)) → MatchResult made (λ sample. a ≡ Ok sample) (λ why. IsErrAnd a (P why)) → ((why : Refusal) (ending : Ending) → P why ending → ending ≡ fault Range at) → Seen bs at a
+    seen (Ok sample) a same k told =
+        let more = comes_more (subst Fits same (record { early = sample.early; within = sample.within })) in
+        subst (Seen bs at) (sym k) (ap first more ∙ ap Ok (sym same), ap rest more, h)
+    seen (Err _) (Ok _) _ k told = absurd k
+    seen (Err why) (Err ending) (_, unfit) k told =
+        let broken = comes_broken unfit in
+        (ap first broken ∙ ap Err (sym (told why ending k)), ap rest broken ∙ sym broken)
 
-  pub row_spelled : length bs ≡ 16 → sample_bytes (row_of bs) ≡ bs
-  row_spelled e =
-      sample_parts _ _ _ _ _ bs e (part 7 0 (omega arith)) (part 1 8 (omega arith)) (part 1 10 (omega arith)) (part 1 12 (omega arith)) (part 1 14 (omega arith))
+-- bytes, sixteen by sixteen
+row_spelled : (bs : List ℕ) → Bytes bs → length bs ≡ 16 → sample_bytes (row_of bs) ≡ bs
+row_spelled bs small e =
+    sample_written bs small e _ _ _ _ _ (ap number (elements_take bs 0 8 (omega arith))) (ap number (elements_take bs 8 2 (omega arith))) (ap number (elements_take bs 10 2 (omega arith))) (ap number (elements_take bs 12 2 (omega arith))) (ap number (elements_take bs 14 2 (omega arith)))
 
 module _ (bs : List ℕ) (small : Bytes bs) where
   abbrev first_row : ℕ → SampleRow
@@ -128,11 +121,7 @@ module _ (bs : List ℕ) (small : Bytes bs) where
 
   -- a start past the end counts as the end
   from_end : (start : ℕ) → drop start bs ≡ drop (min start (length bs)) bs
-  from_end start =
-      ⊎_elim
-      (λ (h : start < length bs). ap (λ n. drop n bs) (omega arith))
-      (λ (h : length bs ≤ start). drop_all start bs (omega arith) ∙ sym (drop_all (min start (length bs)) bs (omega arith)))
-      (cases_lt start (length bs))
+  from_end start = grind (arith, drop_all)
 
   pub comes : (start : ℕ) → Comes bs start (coming_from bs (min start (length bs)))
   comes start =

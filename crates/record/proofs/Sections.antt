@@ -1,76 +1,75 @@
 -- The sections of a record, cut out of its bytes. Assumes nothing.
-use Rattle.std.proofs.Common.{◌≡◌, ℕ, suc, ◌+◌, ◌-◌, ◌*◌, ◌<◌, ◌≤◌, List, [], ◌∷◌, ◌++◌, length, get_or, take, drop, set, sym, refl, ap, ◌∙◌, ap₂, append_assoc, append-nil, arith, length-append, length-drop, take-append-drop, length-take, drop-cons}
-use lib.Seq.{drop-append_seam}
-use Rattle.std.proofs.lemmas.List.{take_more_set, length-map}
+use Rattle.std.proofs.Common.{◌≡◌, ℕ, zero, suc, ◌+◌, ◌-◌, ◌*◌, ◌/◌, ◌<◌, ◌≤◌, List, [], ◌∷◌, ◌++◌, length, get_or, take, drop, Ok, Err, Result, sym, refl, ap, ◌∙◌, subst, ap₂, ⊎_elim, arith, length-append, length-drop, take-append-drop, length-take}
+use denote.Param.Members.{Mut, Called}
+use Rattle.std.specs.Array.{IsFromFnResultFrom}
+use Rattle.std.specs.List.{IsSplitAt}
+use Rattle.std.specs.Result.{IsErrAnd, MatchResult}
+use Rattle.std.specs.Simd.{first_chunks}
+use Rattle.std.proofs.lemmas.Bool.{cases_lt}
+use Rattle.std.proofs.lemmas.List.{nil_from_length}
 use Rattle.refusal.specs.declared.Misfit.{Misfit}
-use Rattle.refusal.specs.declared.Refusal.{Refusal}
-use Rattle.rule.specs.Limits.{most_nodes}
-use Rattle.rule.specs.Made.{nodes_of, Refused, wrong_count, no_node, too_far}
-use Rattle.rule.specs.Rows.{row_of}
-use Rattle.rule.specs.declared.node.Node.{Node}
+use Rattle.rule.specs.Made.{Made}
 use Rattle.rule.specs.declared.node.NodeRow.{NodeRow}
 use Rattle.rule.specs.declared.rule.Rule.{Rule}
-use Rattle.record.specs.Format.{each, node_bytes, nodes_then, samples_then, four}
-use Rattle.record.specs.Opening.{rows_of}
-use Rattle.record.proofs.Bytes.{cut}
-
-pub each_push : {X : Type 0} (f : X → List ℕ) (xs : List X) (x : X) → each f (xs ++ (x ∷ [])) ≡ each f xs ++ f x
-each_push f [] x = append-nil (f x)
-each_push f (y ∷ xs) x = ap (λ r. f y ++ r) (each_push f xs x) ∙ sym (append_assoc (f y) (each f xs) (f x))
+use Rattle.record.specs.Format.{each, itself, node_bytes, nodes_then, samples_then}
+use Rattle.record.specs.Opening.{rows_of, after_nodes, Holds, NoRule, Samples}
+use Rattle.record.specs.Reading.{number}
+use Rattle.record.proofs.Bytes.{Bytes, bytes_take, elements, read_back}
 
 pub length-nodes : (rows : List NodeRow) → length (each node_bytes rows) ≡ 7 * length rows
 length-nodes [] = refl
 length-nodes (row ∷ rows) = let more = length-nodes rows in omega arith
 
--- one node more
-pub rows_more : (bs : List ℕ) (rows : List NodeRow) (i w : ℕ) (x : NodeRow) → w ≡ 7 → i < length rows → drop 1 bs ≡ each node_bytes (take i rows) ++ drop (1 + 7 * i) bs → node_bytes x ≡ take w (drop (1 + 7 * i) bs) → drop 1 bs ≡ each node_bytes (take (i + 1) (set rows i x)) ++ drop (1 + 7 * (i + 1)) bs
-rows_more bs rows i w x seven h inv e =
-    let done = each node_bytes (take i rows) in
-    let at : 1 + 7 * (i + 1) ≡ 1 + 7 * i + 7 = omega arith in
-    inv
-    ∙ ap (λ r. done ++ r) (cut 7 (1 + 7 * i) bs ∙ ap (λ r. r ++ drop (1 + 7 * i + 7) bs) (sym (e ∙ ap (λ n. take n (drop (1 + 7 * i) bs)) seven)))
-    ∙ sym (append_assoc done (node_bytes x) (drop (1 + 7 * i + 7) bs))
-    ∙ ap (λ r. r ++ drop (1 + 7 * i + 7) bs) (sym (each_push node_bytes (take i rows) x) ∙ ap (each node_bytes) (sym (take_more_set rows i x h)))
-    ∙ ap (λ n. each node_bytes (take (i + 1) (set rows i x)) ++ drop n bs) (sym at)
+-- rows that are read of nodes, one by one
+pub rows_read : (rows : List NodeRow) (nodes : List (List ℕ)) → length nodes ≤ length rows → ((i : ℕ) (e : NodeRow) → i < length nodes → node_bytes (get_or rows i e) ≡ get_or nodes i []) → each node_bytes (take (length nodes) rows) ≡ each itself nodes
+rows_read rows [] few read = refl
+rows_read [] (node ∷ nodes) few read = absurd (let z : ⊥ = omega arith in z)
+rows_read (row ∷ rows) (node ∷ nodes) few read = ap₂ ◌++◌ (read 0 row (omega arith)) (rows_read rows nodes (omega arith) (λ i e k. read (suc i) e (omega arith)))
 
--- the whole first section
-pub rows_whole : (bs : List ℕ) (rows : List NodeRow) (count : ℕ) → 0 < length bs → count ≡ get_or bs 0 0 → count ≤ length rows → drop 1 bs ≡ each node_bytes (take count rows) ++ drop (1 + 7 * count) bs → bs ≡ nodes_then (take count rows) (drop (1 + 7 * count) bs)
-rows_whole bs rows count some e h inv =
-    let long : length (take count rows) ≡ get_or bs 0 0 = simp length-take (omega arith) in
-    drop-cons bs 0 0 some ∙ ap (λ r. get_or bs 0 0 ∷ r) inv ∙ ap (λ n. n ∷ (each node_bytes (take count rows) ++ drop (1 + 7 * count) bs)) (sym long)
+-- what is made place by place, as each call from a kept state tells
+module _ {F : Type 0} {g : Mut F (ℕ × Unit {0}) NodeRow} (nodes : List (List ℕ)) (rows : List NodeRow) (Kept : F → Type 0) (call : (f q : F) (i : ℕ) (row : NodeRow) → i < length nodes → Kept f → Called g f (i, tt) row q → (node_bytes row ≡ get_or nodes i []) × Kept q) where
+  pub made_at : (f : F) (i n k : ℕ) (e : NodeRow) → i ≤ k → k < i + n → k < length nodes → Kept f → IsFromFnResultFrom g f rows i n → node_bytes (get_or rows k e) ≡ get_or nodes k []
+  made_at f i zero k e from to below kept made = absurd (let z : ⊥ = omega arith in z)
+  made_at f i (suc n) k e from to below kept (q, row, at, called, more) =
+      let here = call f q i row (omega arith) kept called in
+      ⊎_elim
+      (λ (later : i < k). made_at q (i + 1) n k e (omega arith) (omega arith) below here.1 more)
+      (λ (this : k ≤ i). let same : k ≡ i = omega arith in ap (λ j. node_bytes (get_or rows j e)) same ∙ ap node_bytes (at.1 e) ∙ here.0 ∙ ap (λ j. get_or nodes j []) (sym same))
+      (cases_lt i k)
 
--- what follows the first section
-module _ (bs : List ℕ) (rows : List NodeRow) (rest : List ℕ) (e : bs ≡ nodes_then rows rest) where
-  pub length_whole : length bs ≡ 1 + 7 * length rows + length rest
-  length_whole = ap length e ∙ ap suc (length-append (each node_bytes rows) rest ∙ ap (λ n. n + length rest) (length-nodes rows)) ∙ omega arith
+-- seven by seven, bytes are the same
+chunks_whole : (k : ℕ) (bs : List ℕ) → length bs ≡ 7 * k → each itself (first_chunks 7 k bs) ≡ bs
+chunks_whole zero bs e = sym (nil_from_length bs e)
+chunks_whole (suc k) bs e = ap (λ r. take 7 bs ++ r) (chunks_whole k (drop 7 bs) (simp length-drop (omega arith))) ∙ take-append-drop 7 bs
 
-  pub drop_whole : drop (1 + 7 * length rows) bs ≡ rest
-  drop_whole =
-      let n : 1 + 7 * length rows ≡ suc (length (each node_bytes rows)) = let h = length-nodes rows in omega arith in
-      ap (λ k. drop k bs) n ∙ ap (drop (suc (length (each node_bytes rows)))) e ∙ drop-append_seam (each node_bytes rows) rest
+-- the first section, from the parts that are cut out of it
+pub section : (bs rest nodes after : List ℕ) (count : ℕ) (chunks : List (List ℕ)) (all : List NodeRow) → bs ≡ count ∷ rest → IsSplitAt rest (7 * count) nodes after → chunks ≡ first_chunks 7 (length nodes / 7) nodes → length chunks ≡ length nodes / 7 → count ≤ length all → each node_bytes (take (length chunks) all) ≡ each itself chunks → bs ≡ nodes_then (take count all) after
+section bs rest nodes after count chunks all e (_, front, back, long, _) f g h read =
+    let k : length nodes / 7 ≡ count = omega arith in
+    let rows : length (take count all) ≡ count = simp length-take (omega arith) in
+    let whole : each node_bytes (take count all) ≡ nodes =
+    ap (λ n. each node_bytes (take n all)) (sym (g ∙ k)) ∙ read ∙ ap (each itself) f ∙ chunks_whole (length nodes / 7) nodes (omega arith) in
+    e ∙ ap₂ ◌∷◌ (sym rows) (sym (take-append-drop (7 * count) rest) ∙ ap₂ ◌++◌ (sym (whole ∙ front)) (sym back))
 
-  -- .. begins with the count of samples
-  pub samples_whole : (n w at : ℕ) → w ≡ 4 → at ≡ 1 + 7 * length rows → four n ≡ take w (drop at bs) → rest ≡ samples_then n (drop 4 rest)
-  samples_whole n w at p q f =
-      sym (take-append-drop 4 rest) ∙ ap (λ r. r ++ drop 4 rest) (sym (f ∙ ap₂ (λ k a. take k (drop a bs)) p q ∙ ap (take 4) drop_whole))
+-- what the rows are made into, with a misfit's place changed
+pub made_rule : {P : Misfit → Misfit → Type 0} (rows : List NodeRow) (made r : Result Rule Misfit) → Made rows made → MatchResult made (λ rule. r ≡ Ok rule) (λ why. IsErrAnd r (P why)) → ((why m : Misfit) → P why m → m ≡ record { refusal = why.refusal; place = 1 + 7 * why.place }) → MatchResult r (λ rule. rows_of rule ≡ rows) (NoRule rows)
+made_rule rows (Ok rule) r h k told = subst (λ r. MatchResult r (λ rule. rows_of rule ≡ rows) (NoRule rows)) (sym k) h
+made_rule rows (Err why) (Ok rule) h k told = absurd k
+made_rule rows (Err why) (Err m) h k told = (why, h, told why m k)
 
--- a refusal of at most 32 rows speaks of a place below 32
-pub place_small : (rows : List NodeRow) (m : Misfit) → length rows ≤ most_nodes → Refused rows m → m.place < most_nodes
-place_small rows m h (wrong_count e _) = let p = ap (λ (x : Misfit). x.place) e in omega arith
-place_small rows m h (no_node i e _ l _ _) = let p = ap (λ (x : Misfit). x.place) e in omega arith
-place_small rows m h (too_far ns e _ _ _ _ _) = let p = ap (λ (x : Misfit). x.place) e in omega arith
+-- the count of samples, from the four bytes that are cut out
+pub counted : (bs count rest : List ℕ) (n : ℕ) → Bytes bs → (count ≡ take 4 bs) × (rest ≡ drop 4 bs) × (length rest + 4 ≡ length bs) → n ≡ number (elements count 0 4) → bs ≡ samples_then n rest
+counted bs count rest n small (front, back, long) f =
+    let four_long : length count ≡ 4 = ap length front ∙ simp length-take (omega arith) in
+    let read = read_back count (subst Bytes (sym front) (bytes_take 4 bs small)) 3 n four_long f in
+    sym (take-append-drop 4 bs) ∙ ap₂ ◌++◌ (sym (read ∙ front)) (sym back)
 
--- a misfit at the same place under another name
-pub moved : {m : Misfit} {why : Refusal} {p q : ℕ} → m ≡ record { refusal = why; place = p } → p ≡ q → m ≡ record { refusal = why; place = q }
-moved {why = why} e h = e ∙ ap (λ p. record { refusal = why; place = p }) h
+-- the place after the first section
+pub length_whole : (bs : List ℕ) (rows : List NodeRow) (rest : List ℕ) → bs ≡ nodes_then rows rest → length bs ≡ 1 + 7 * length rows + length rest
+length_whole bs rows rest e = ap length e ∙ ap suc (length-append (each node_bytes rows) rest ∙ ap (λ n. n + length rest) (length-nodes rows)) ∙ omega arith
 
--- the lengths of a record whose rule has these nodes
-pub record Laid (bs : List ℕ) (rule : Rule) (rest : List ℕ) (ns : List Node) : Type 0 where
-  pub count : length ns ≡ length (rows_of rule)
-  pub long : length bs ≡ 1 + 7 * length ns + length rest
-  pub left : length (drop 4 rest) ≡ length rest - 4
+pub after : (bs : List ℕ) (rule : Rule) (rest : List ℕ) → bs ≡ nodes_then (rows_of rule) rest → length bs - length rest ≡ after_nodes rule
+after bs rule rest e = let l = length_whole bs (rows_of rule) rest e in omega arith
 
-pub laid : (bs : List ℕ) (rule : Rule) (rest : List ℕ) (ns : List Node) → bs ≡ nodes_then (rows_of rule) rest → ns ≡ nodes_of rule → Laid bs rule rest ns
-laid bs rule rest ns e n =
-    let same : length ns ≡ length (rows_of rule) = ap length n ∙ sym (length-map (nodes_of rule) row_of) in
-    record { count = same; long = length_whole bs (rows_of rule) rest e ∙ ap (λ k. 1 + 7 * k + length rest) (sym same); left = length-drop 4 rest }
+pub holds : (bs : List ℕ) (rule : Rule) (rest : List ℕ) (samples : ℕ) → bs ≡ nodes_then (rows_of rule) rest → Samples samples rest → Holds bs rule samples
+holds bs rule rest samples e s = record { body = s.body; whole = e ∙ ap (nodes_then (rows_of rule)) s.whole; few = s.few; sixteen = s.sixteen }

@@ -1,5 +1,5 @@
 -- Bytes have one list of samples and one ending. Assumes nothing.
-use Rattle.std.proofs.Common.{◌≡◌, ℕ, ◌+◌, List, [], ◌∷◌, ◌++◌, length, take, sym, refl, ap, ◌∙◌, subst, ap₂, inl, inr, append_assoc, arith}
+use Rattle.std.proofs.Common.{◌≡◌, ℕ, ◌*◌, List, [], ◌∷◌, ◌++◌, length, take, sym, refl, ap, ◌∙◌, subst, ap₂, inl, inr, append_assoc, arith, length-append}
 use Rattle.std.specs.List.{AllByRecursion}
 use Rattle.std.proofs.lemmas.List.{append_cancel_left}
 use Rattle.sample.specs.Coming.{Coming}
@@ -13,34 +13,25 @@ use Rattle.record.specs.Reading.{row_of}
 use Rattle.record.proofs.Bytes.{elements_are}
 use Rattle.record.proofs.Samples.{row_written}
 
-long : (s : ℕ) (cs : List ℕ) → length cs ≡ 4 → (xs : List ℕ) → length (sample_bytes (record { stamp = s; codes = cs }) ++ xs) ≡ 16 + length xs
-long s cs e xs = subst (λ cs. length (sample_bytes (record { stamp = s; codes = cs }) ++ xs) ≡ 16 + length xs) (sym (elements_are cs 0 4 e)) (omega arith)
+length_codes : (cs : List ℕ) → length (each two cs) ≡ 2 * length cs
+length_codes [] = refl
+length_codes (c ∷ cs) = let more = length_codes cs in omega arith
 
 row_begins : (s : ℕ) (cs : List ℕ) → length cs ≡ 4 → (xs : List ℕ) → row_of (take 16 ((eight s ++ each two cs) ++ xs)) ≡ record { stamp = s; codes = cs }
-row_begins s cs e xs = subst (λ cs. row_of (take 16 ((eight s ++ each two cs) ++ xs)) ≡ row_of (eight s ++ each two cs)) (sym (elements_are cs 0 4 e)) refl ∙ row_written s cs e
+row_begins s cs e xs = subst (λ cs. row_of (take 16 ((eight s ++ each two cs) ++ xs)) ≡ row_of (eight s ++ each two cs)) (sym (elements_are cs 4 e)) refl ∙ row_written s cs e
 
 known : (r s : SampleRow) (xs ys : List ℕ) → length r.codes ≡ 4 → length s.codes ≡ 4 → sample_bytes r ++ xs ≡ sample_bytes s ++ ys → r ≡ s
 known r s xs ys e f p = sym (row_begins r.stamp r.codes e xs) ∙ ap (λ t. row_of (take 16 t)) p ∙ row_begins s.stamp s.codes f ys
 
 -- an ending never has a whole sample left
 not_whole : (size : ℕ) (r : SampleRow) (xs left : List ℕ) (e : Ending) → Whole r → left ≡ sample_bytes r ++ xs → Ends size left e → ⊥
-not_whole size r xs left Dry w p h = let l = long r.stamp r.codes w.four xs in let q = ap length (sym h ∙ p) in let z : ⊥ = omega arith in z
-not_whole size r xs left (Fault f) w p (a, inl (b, c, d)) = let l = long r.stamp r.codes w.four xs in let q = ap length p in let z : ⊥ = omega arith in z
+not_whole size r xs left Dry w p h = grind (arith, length_codes, length-append {A = ℕ})
+not_whole size r xs left (Fault f) w p (a, inl (b, c, d)) = grind (arith, length_codes, length-append {A = ℕ})
 not_whole size r xs left (Fault f) w p (a, inr (b, c)) =
     c.unfit (subst Fits (known r c.row xs c.more w.four c.four (sym p ∙ c.bytes_are)) w.fits)
 
 one_ending : (size : ℕ) (left : List ℕ) (e f : Ending) → Ends size left e → Ends size left f → e ≡ f
-one_ending size left Dry Dry h k = refl
-one_ending size left Dry (Fault f) h (a, inl (b, c, d)) = let q = ap length h in absurd (let z : ⊥ = omega arith in z)
-one_ending size left Dry (Fault f) h (a, inr (b, c)) = let l = long c.row.stamp c.row.codes c.four c.more in let q = ap length (sym h ∙ c.bytes_are) in absurd (let z : ⊥ = omega arith in z)
-one_ending size left (Fault f) Dry (a, inl (b, c, d)) h = let q = ap length h in absurd (let z : ⊥ = omega arith in z)
-one_ending size left (Fault f) Dry (a, inr (b, c)) h = let l = long c.row.stamp c.row.codes c.four c.more in let q = ap length (sym h ∙ c.bytes_are) in absurd (let z : ⊥ = omega arith in z)
-one_ending size left (Fault f) (Fault g) (a, inl (b, c, d)) (a', inl (b', c', d')) =
-    let n : f.number ≡ g.number = b ∙ sym b' in let p : f.place ≡ g.place = omega arith in λ i. Fault (record { number = n i; place = p i })
-one_ending size left (Fault f) (Fault g) (a, inl (b, c, d)) (a', inr (b', c')) = let l = long c'.row.stamp c'.row.codes c'.four c'.more in let q = ap length c'.bytes_are in absurd (let z : ⊥ = omega arith in z)
-one_ending size left (Fault f) (Fault g) (a, inr (b, c)) (a', inl (b', c', d')) = let l = long c.row.stamp c.row.codes c.four c.more in let q = ap length c.bytes_are in absurd (let z : ⊥ = omega arith in z)
-one_ending size left (Fault f) (Fault g) (a, inr (b, c)) (a', inr (b', c')) =
-    let n : f.number ≡ g.number = b ∙ sym b' in let p : f.place ≡ g.place = omega arith in λ i. Fault (record { number = n i; place = p i })
+one_ending size left e f h k = grind (arith, length_codes, length-append {A = ℕ})
 
 go : (size : ℕ) (rs ss : List SampleRow) (xs ys : List ℕ) (e f : Ending) → AllByRecursion Whole rs → AllByRecursion Whole ss → each sample_bytes rs ++ xs ≡ each sample_bytes ss ++ ys → Ends size xs e → Ends size ys f → (rs ≡ ss) × (e ≡ f)
 go size [] [] xs ys e f w v p h k = (refl, one_ending size xs e f h (subst (λ t. Ends size t f) (sym p) k))

@@ -26,6 +26,10 @@ abbrev pub each : {X : Type 0} → (X → List ℕ) → List X → List ℕ
 each bytes [] = []
 each bytes (x ∷ xs) = bytes x ++ each bytes xs
 
+-- a part that is bytes already
+abbrev pub itself : List ℕ → List ℕ
+itself bytes = bytes
+
 -- seven bytes
 abbrev pub node_bytes : NodeRow → List ℕ
 node_bytes row = one row.kind ++ (one row.first ++ (one row.second ++ (two row.low ++ two row.high)))

@@ -1,5 +1,5 @@
 -- What opening a record answers. Assumes nothing.
-use Rattle.std.specs.Prelude.{◌≡◌, ℕ, ◌+◌, ◌*◌, ◌<◌, ◌≤◌, true, ◌⊎◌, List, [], ◌++◌, map, length, is_ok, Ok, Err, Result, MatchResult}
+use Rattle.std.specs.Prelude.{◌≡◌, ℕ, ◌+◌, ◌*◌, ◌<◌, ◌≤◌, true, ◌⊎◌, List, [], ◌++◌, map, length, is_ok, Ok, Err, Result}
 use Rattle.refusal.specs.Table.{number_of}
 use Rattle.refusal.specs.declared.Misfit.{Misfit}
 use Rattle.refusal.specs.declared.Refusal.{Refusal}
@@ -30,8 +30,19 @@ pub record Holds (bytes : List ℕ) (rule : Rule) (samples : ℕ) : Type 0 where
   pub few : samples ≤ most_samples
   pub sixteen : length body ≡ 16 * samples
 
+-- the bytes are the section of so many samples, and nothing more
+pub record Samples (samples : ℕ) (bytes : List ℕ) : Type 0 where
+  pub body : List ℕ
+  pub whole : bytes ≡ samples_then samples body
+  pub few : samples ≤ most_samples
+  pub sixteen : length body ≡ 16 * samples
+
 abbrev misfit_at : Refusal → ℕ → Misfit
 misfit_at why place = record { refusal = why; place = place }
+
+-- why rows are no rule, at the place of a byte
+abbrev pub NoRule : List NodeRow → Misfit → Type 0
+NoRule rows m = (why : Misfit) × Refused rows why × (m ≡ misfit_at why.refusal (1 + 7 * why.place))
 
 -- why bytes at a place are not the section of the samples and nothing more: the first test that fails
 pub data NoSamples (place : ℕ) (bytes : List ℕ) (m : Misfit) : Type 0 where
@@ -98,13 +109,13 @@ pub record Exactly (bytes : List ℕ) (a : Result Opened Misfit) : Type 0 where
 abbrev pub Opens : List ℕ → Type 0
 Opens bytes = (rule : Rule) × (samples : ℕ) × Holds bytes rule samples
 
-pub record Tested (bytes : List ℕ) (a : Result Opened Misfit) : Type 0 where
-  pub told : MatchResult a (λ _. Opens bytes) (λ m. Broken bytes m)
-  pub exactly : Exactly bytes a
+-- what a reader of refusals reads of the answer, 0 if the bytes open
+abbrev pub Told : (Misfit → ℕ) → List ℕ → ℕ → Type 0
+Told read bytes n = (Opens bytes × (n ≡ 0)) ⊎ ((m : Misfit) × Broken bytes m × (n ≡ read m))
 
 -- the number and the place of the answer, each 0 if the bytes open
 abbrev pub NumberTold : List ℕ → ℕ → Type 0
-NumberTold bytes n = (Opens bytes × (n ≡ 0)) ⊎ ((m : Misfit) × Broken bytes m × (n ≡ number_of m.refusal))
+NumberTold = Told (λ m. number_of m.refusal)
 
 abbrev pub PlaceTold : List ℕ → ℕ → Type 0
-PlaceTold bytes p = (Opens bytes × (p ≡ 0)) ⊎ ((m : Misfit) × Broken bytes m × (p ≡ m.place))
+PlaceTold = Told (λ m. m.place)

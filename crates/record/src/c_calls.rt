@@ -1,28 +1,26 @@
 // The opening test over a byte slice: number and place of the refusal. The crate record_c hands both to programs in C.
-ghost use Rattle.std.specs.Prelude.{◌≡◌};
-ghost use Rattle.record.specs.Opening.{Opens, Tested, NumberTold, PlaceTold};
+ghost use Rattle.std.specs.Prelude.{◌≡◌, MatchOption};
+ghost use Rattle.record.specs.Opening.{Broken, Opens, NumberTold, PlaceTold};
 
-use crate::opening::{Opened, open};
+use crate::opening::open;
 use refusal::Misfit;
 use rule::Rule;
 
-fn test_record(bytes: &[u8]) -> Result<Opened, Misfit>
-    ensures { Tested bytes.now result }
+/// The refusal of these bytes; none if they open.
+fn refused(bytes: &[u8]) -> Option<Misfit>
+    ensures { MatchOption result (Opens bytes.now) (λ m. Broken bytes.now m) }
 {
-    let mut rule = Rule::new();
-    open(bytes, &mut rule)
+    open(bytes, &mut Rule::new()).err()
 }
 
-/// The number of the refusal of these bytes, 0 if they open.
+/// The number of the refusal of these bytes, 0 if they open. A number and not a `Result`, and a function of its own beside that of the place,
+/// since C calls both.
 pub fn comriep_record_number(bytes: &[u8]) -> u32
     ensures told { NumberTold bytes.now result }
     ensures opens { Opens bytes.now → result ≡ 0 }
     ensures only { result ≡ 0 → Opens bytes.now }
 {
-    match test_record(bytes) {
-        Ok(_) => 0,
-        Err(misfit) => misfit.refusal.number(),
-    }
+    refused(bytes).map_or(0, |misfit| misfit.refusal.number())
 }
 
 /// The place of the refusal of these bytes, 0 if they open.
@@ -30,8 +28,5 @@ pub fn comriep_record_place(bytes: &[u8]) -> u64
     ensures told { PlaceTold bytes.now result }
     ensures opens { Opens bytes.now → result ≡ 0 }
 {
-    match test_record(bytes) {
-        Ok(_) => 0,
-        Err(misfit) => misfit.place,
-    }
+    refused(bytes).map_or(0, |misfit| misfit.place)
 }

@@ -1,58 +1,49 @@
 // The parts of a record, read from their bytes.
-ghost use Rattle.std.specs.Prelude.{◌≡◌, length};
-ghost use Rattle.record.specs.Format.{two, four, eight, node_bytes, sample_bytes};
+ghost use Rattle.std.specs.Prelude.{◌≡◌, ◌<◌, length, MatchOption};
+ghost use Rattle.record.specs.Format.{node_bytes, sample_bytes, samples_then};
 
 use rule::NodeRow;
 use sample::SampleRow;
 
-pub(crate) fn read_u16(bytes: &[u8]) -> u16
-    requires { length bytes.now ≡ 2 }
-    ensures { two result ≡ bytes.now }
-{
-    u16::from_le_bytes([bytes[0], bytes[1]])
-}
+/// The bytes of a node.
+pub(crate) const NODE: usize = 7;
 
-pub(crate) fn read_u32(bytes: &[u8]) -> u32
-    requires { length bytes.now ≡ 4 }
-    ensures { four result ≡ bytes.now }
-{
-    u32::from_le_bytes([bytes[0], bytes[1], bytes[2], bytes[3]])
-}
+/// The bytes of a sample.
+pub(crate) const SAMPLE: usize = 16;
 
-pub(crate) fn read_u64(bytes: &[u8]) -> u64
-    requires { length bytes.now ≡ 8 }
-    ensures { eight result ≡ bytes.now }
-{
-    u64::from_le_bytes([
-        bytes[0], bytes[1], bytes[2], bytes[3], bytes[4], bytes[5], bytes[6], bytes[7],
-    ])
-}
-
-pub(crate) fn read_node(bytes: &[u8]) -> NodeRow
-    requires { length bytes.now ≡ 7 }
+pub(crate) fn read_node(bytes: &[u8; NODE]) -> NodeRow
     ensures { node_bytes result ≡ bytes.now }
 {
+    let [kind, first, second, a, b, c, d] = *bytes;
     NodeRow {
-        kind: bytes[0],
-        first: bytes[1],
-        second: bytes[2],
-        low: read_u16(&bytes[3..5]),
-        high: read_u16(&bytes[5..7]),
+        kind,
+        first,
+        second,
+        low: u16::from_le_bytes([a, b]),
+        high: u16::from_le_bytes([c, d]),
     }
 }
 
-pub(crate) fn read_sample(bytes: &[u8]) -> SampleRow
-    requires { length bytes.now ≡ 16 }
+/// The count of samples, and the bytes after it; none if there are too few bytes for it.
+pub(crate) fn split_count(bytes: &[u8]) -> Option<(u32, &[u8])>
+    ensures { MatchOption result (length bytes.now < 4) (λ p. bytes.now ≡ samples_then p.0 p.1.now) }
+{
+    let (count, rest) = bytes.split_first_chunk()?;
+    Some((u32::from_le_bytes(*count), rest))
+}
+
+pub(crate) fn read_sample(bytes: &[u8; SAMPLE]) -> SampleRow
     ensures spells { sample_bytes result ≡ bytes.now }
     ensures four { length result.codes ≡ 4 }
 {
+    let [a, b, c, d, e, f, g, h, i, j, k, l, m, n, o, p] = *bytes;
     SampleRow {
-        stamp: read_u64(&bytes[0..8]),
+        stamp: u64::from_le_bytes([a, b, c, d, e, f, g, h]),
         codes: [
-            read_u16(&bytes[8..10]),
-            read_u16(&bytes[10..12]),
-            read_u16(&bytes[12..14]),
-            read_u16(&bytes[14..16]),
+            u16::from_le_bytes([i, j]),
+            u16::from_le_bytes([k, l]),
+            u16::from_le_bytes([m, n]),
+            u16::from_le_bytes([o, p]),
         ],
     }
 }

@@ -1,12 +1,13 @@
 // Opening a record: the tests, from the front.
-ghost use Rattle.std.specs.Prelude.{◌≡◌, ℕ, ◌+◌, ◌*◌, ◌≤◌, List, ◌++◌, length, take, drop, MatchResult};
+ghost use Rattle.std.specs.Prelude.{◌≡◌, ◌+◌, ◌<◌, ◌≤◌, ◌^◌, length, take, MatchResult};
 ghost use Rattle.rule.specs.Limits.{most_nodes};
-ghost use Rattle.record.specs.Format.{each, node_bytes, nodes_then};
-ghost use Rattle.record.specs.Opening.{Answered, Broken, Exactly, Holds, rows_of, start_of};
+ghost use Rattle.record.specs.Format.{each, itself, node_bytes, nodes_then};
+ghost use Rattle.record.specs.Opening.{Answered, Broken, Exactly, NoRule, NoSamples, Samples, rows_of};
 
-use crate::format::{read_node, read_u32};
+use crate::format::{NODE, SAMPLE, read_node, split_count};
 use refusal::{Misfit, Refusal};
 use rule::{NodeRow, Rule};
+use std::array;
 
 /// What an open record holds: how many samples, and the place of the first one.
 #[derive(Clone, Copy, PartialEq, Eq, Debug)]
@@ -20,62 +21,50 @@ impl Opened {
     pub const MOST_SAMPLES: u32 = 1_000_000;
 }
 
-/// The bytes of a node.
-const NODE: usize = 7;
-
-/// The bytes of a sample.
-pub(crate) const SAMPLE: usize = 16;
-
 /// Opens a record: fills the caller's rule, and answers how many samples there are and where they start. Bytes that are
 /// no record are refused by the first test that fails, and leave the rule as it was.
 pub fn open(bytes: &[u8], rule: &mut Rule) -> Result<Opened, Misfit>
     ensures answer { Answered bytes.now rule.old rule.new result }
     ensures exactly { Exactly bytes.now result }
 {
-    let found = read_rule(bytes)?;
-    let opened = read_samples(bytes, &found)?;
+    let (found, rest) = read_rule(bytes)?;
+    let opened = read_samples(rest, bytes.len() - rest.len())?;
     *rule = found;
     Ok(opened)
 }
 
-fn misfit(refusal: Refusal, place: usize) -> Misfit
-    ensures { result ≡ record { refusal = refusal; place = place } }
+/// The rule of the first section, and the bytes after it.
+fn read_rule(bytes: &[u8]) -> Result<(Rule, &[u8]), Misfit>
+    ensures { MatchResult result (λ p. bytes.now ≡ nodes_then (rows_of p.0) p.1.now) (λ m. Broken bytes.now m) }
 {
-    Misfit {
-        refusal,
-        place: place as u64,
-    }
-}
-
-/// The rule of the first section.
-fn read_rule(bytes: &[u8]) -> Result<Rule, Misfit>
-    ensures { MatchResult result (λ rule. (rest : List ℕ) × (bytes.now ≡ nodes_then (rows_of rule) rest)) (λ m. Broken bytes.now m) }
-{
-    if bytes.is_empty() {
-        return Err(misfit(Refusal::Cut, 0));
-    }
-    let count = bytes[0] as usize;
+    let Some((count, rest)) = bytes.split_first() else {
+        return Err(Refusal::Cut.at(0));
+    };
+    let count = usize::from(*count);
     if count == 0 || count > Rule::MOST_NODES {
-        return Err(misfit(Refusal::Count, 0));
+        return Err(Refusal::Count.at(0));
     }
-    if bytes.len() - 1 < NODE * count {
-        return Err(misfit(Refusal::Cut, 1));
-    }
-    let rows = read_rows(bytes, count);
-    match Rule::from_rows(&rows[0..count]) {
-        Ok(rule) => Ok(rule),
-        Err(why) => Err(Misfit {
-            refusal: why.refusal,
-            place: 1 + NODE as u64 * why.place,
-        }),
-    }
+    let Some((nodes, rest)) = rest.split_at_checked(NODE * count) else {
+        return Err(Refusal::Cut.at(1));
+    };
+    let (nodes, _) = nodes.as_chunks();
+    let rows = read_rows(nodes);
+    let rule = rule_of(&rows[..count])?;
+    Ok((rule, rest))
 }
 
-/// The rows of so many nodes, in the first places.
-fn read_rows(bytes: &[u8], count: usize) -> [NodeRow; Rule::MOST_NODES]
-    requires { (count ≤ most_nodes) × (1 + 7 * count ≤ length bytes.now) }
+/// The rule of these rows, which begin at byte 1 of a record; refused at the place of a byte, and not of a row.
+fn rule_of(rows: &[NodeRow]) -> Result<Rule, Misfit>
+    ensures { MatchResult result (λ rule. rows_of rule ≡ rows.now) (NoRule rows.now) }
+{
+    Rule::from_rows(rows).map_err(|why| why.refusal.at(1 + NODE as u64 * why.place))
+}
+
+/// The rows of these nodes, in the first places.
+fn read_rows(nodes: &[[u8; NODE]]) -> [NodeRow; Rule::MOST_NODES]
+    requires { length nodes.now ≤ most_nodes }
     ensures held { length result ≡ most_nodes }
-    ensures rows { drop 1 bytes.now ≡ each node_bytes (take count result) ++ drop (1 + 7 * count) bytes.now }
+    ensures rows { each node_bytes (take (length nodes.now) result) ≡ each itself nodes.now }
 {
     let none = NodeRow {
         kind: 0,
@@ -84,35 +73,27 @@ fn read_rows(bytes: &[u8], count: usize) -> [NodeRow; Rule::MOST_NODES]
         low: 0,
         high: 0,
     };
-    let mut rows = [none; Rule::MOST_NODES];
-    for i in 0..count {
-        let at = 1 + NODE * i;
-        rows[i] = read_node(&bytes[at..at + NODE]);
-    }
-    rows
+    array::from_fn(|i| nodes.get(i).map_or(none, read_node))
 }
 
-/// The count of the second section, where that section is all the rest.
-fn read_samples(bytes: &[u8], rule: &Rule) -> Result<Opened, Misfit>
-    requires { (rest : List ℕ) × (bytes.now ≡ nodes_then (rows_of rule.now) rest) }
-    ensures { MatchResult result (λ o. Holds bytes.now rule.now o.samples × (o.start ≡ start_of rule.now)) (λ m. Broken bytes.now m) }
+/// The section of the samples, which begins at this place and is all the rest of a record.
+fn read_samples(bytes: &[u8], place: usize) -> Result<Opened, Misfit>
+    requires { place + length bytes.now < 2 ^ 64 }
+    ensures { MatchResult result (λ o. Samples o.samples bytes.now × (o.start ≡ place + 4)) (λ m. NoSamples place bytes.now m) }
 {
-    let after = 1 + NODE * rule.nodes().len();
-    let left = bytes.len() - after;
-    if left < 4 {
-        return Err(misfit(Refusal::Cut, after));
-    }
-    let start = after + 4;
-    let samples = read_u32(&bytes[after..start]);
+    let Some((samples, body)) = split_count(bytes) else {
+        return Err(Refusal::Cut.at(place as u64));
+    };
     if samples > Opened::MOST_SAMPLES {
-        return Err(misfit(Refusal::Count, after));
+        return Err(Refusal::Count.at(place as u64));
     }
+    let start = place + 4;
     let size = SAMPLE * samples as usize;
-    if bytes.len() - start < size {
-        return Err(misfit(Refusal::Cut, start));
+    if body.len() < size {
+        return Err(Refusal::Cut.at(start as u64));
     }
-    if bytes.len() - start > size {
-        return Err(misfit(Refusal::Surplus, start + size));
+    if body.len() > size {
+        return Err(Refusal::Surplus.at((start + size) as u64));
     }
     Ok(Opened { samples, start })
 }

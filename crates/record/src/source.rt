@@ -4,8 +4,7 @@ ghost use Rattle.record.specs.Reading.{coming_of, fault, Seen};
 ghost use Rattle.std.specs.Prelude.{◌≡◌};
 ghost use Rattle.sample.specs.Coming.{Coming};
 
-use crate::format::read_sample;
-use crate::opening::SAMPLE;
+use crate::format::{SAMPLE, read_sample};
 use refusal::{Fault, Refusal};
 use sample::{Ending, Sample, Source};
 
@@ -13,6 +12,7 @@ use sample::{Ending, Sample, Source};
 /// (range) or at too few bytes for one (cut). It does not ask how many samples the record says it has.
 #[derive(Drop)]
 pub struct RecordSource<'a> {
+    // The whole record with a place beside, and not the bytes that are left: the place of a fault counts from the first byte.
     bytes: &'a [u8],
     at: usize,
 }
@@ -28,6 +28,7 @@ impl<'a> RecordSource<'a> {
     }
 }
 
+/// The ending with a refusal's number at a place; no `From`, since it takes both.
 fn fault_at(why: Refusal, place: usize) -> Ending
     ensures { result ≡ fault why place }
 {
@@ -44,14 +45,11 @@ fn sample_at(bytes: &[u8], at: usize) -> Result<Sample, Ending>
     if at >= bytes.len() {
         return Err(Ending::Dry);
     }
-    if bytes.len() - at < SAMPLE {
+    let Some(first) = bytes[at..].first_chunk() else {
         return Err(fault_at(Refusal::Cut, at));
-    }
-    let row = read_sample(&bytes[at..at + SAMPLE]);
-    match Sample::new(row.stamp, row.codes) {
-        Ok(sample) => Ok(sample),
-        Err(_) => Err(fault_at(Refusal::Range, at)),
-    }
+    };
+    let row = read_sample(first);
+    Sample::new(row.stamp, row.codes).map_err(|_| fault_at(Refusal::Range, at))
 }
 
 impl<'a> Source for RecordSource<'a> {
@@ -62,9 +60,8 @@ impl<'a> Source for RecordSource<'a> {
     }
 
     fn step(&mut self) {
-        let at = self.at;
-        if sample_at(self.bytes, at).is_ok() {
-            self.at = at + SAMPLE;
+        if sample_at(self.bytes, self.at).is_ok() {
+            self.at += SAMPLE;
         }
     }
 }

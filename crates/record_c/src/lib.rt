@@ -4,7 +4,8 @@
 ghost use Rattle.std.specs.Prelude.{◌≡◌};
 ghost use Rattle.record.specs.Opening.{NumberTold, Opens, PlaceTold};
 
-/// The number of the refusal of these bytes, 0 if they open.
+/// The number of the refusal of these bytes, 0 if they open. A number and no `Result`, and the place by a call of its own, since it is C that
+/// calls.
 #[unsafe(no_mangle)]
 pub extern "C" fn comriep_record_number(bytes: &[u8]) -> u32
     ensures told { NumberTold bytes.now result }

@@ -2,7 +2,7 @@
 #![tactic(auto)]
 
 use record::{Opened, RecordSource, open};
-use refusal::Misfit;
+use refusal::Refusal;
 use rule::Rule;
 use sample::{Ending, Sample, Source};
 use std::io;
@@ -17,39 +17,39 @@ const FIRST_FEW: u32 = 8;
 fn main(rt: HostRuntime) -> io::Result<()> {
     let mut bytes = Vec::new(rt.alloc());
     rt.stdin().take(ENOUGH).read_to_end(&mut bytes)?;
+    show(&rt, &bytes)
+}
+
+fn show(rt: &impl Print, bytes: &[u8]) -> io::Result<()> {
     let mut rule = Rule::new();
-    match open(&bytes, &mut rule) {
+    match open(bytes, &mut rule) {
         Ok(opened) => {
-            show_rule(&rt, &rule)?;
-            show_samples(&rt, &bytes, opened)
+            show_rule(rt, &rule)?;
+            show_samples(rt, bytes, opened)
         }
-        Err(misfit) => show_refusal(&rt, misfit),
+        Err(misfit) => println!(rt; "{misfit}"),
     }
 }
 
-fn show_refusal(rt: &HostRuntime, misfit: Misfit) -> io::Result<()> {
-    let number = misfit.refusal.number();
-    let place = misfit.place;
-    let word = misfit.refusal;
-    println!(rt; "refused {number} at {place}: {word}")
-}
-
-fn show_rule(rt: &HostRuntime, rule: &Rule) -> io::Result<()> {
-    let count = rule.nodes().len();
-    println!(rt; "rule of {count} nodes, the last is its meaning")?;
-    for (number, node) in rule.nodes().iter().enumerate() {
+fn show_rule(rt: &impl Print, rule: &Rule) -> io::Result<()> {
+    let nodes = rule.nodes();
+    println!(rt; "rule of {} nodes, the last is its meaning", nodes.len())?;
+    for (number, node) in nodes.iter().enumerate() {
         println!(rt; "{number:4}  {node}")?;
     }
-    let wait = rule.wait();
-    let reach = rule.reach();
-    let span = rule.span();
-    println!(rt; "wait {wait}, reach {reach}, span {span}")
+    println!(rt;
+        "wait {}, reach {}, span {}",
+        rule.wait(),
+        rule.reach(),
+        rule.span()
+    )
 }
 
-fn show_samples(rt: &HostRuntime, bytes: &[u8], opened: Opened) -> io::Result<()> {
-    let samples = opened.samples;
-    println!(rt; "{samples} samples, the first at byte {}", opened.start)?;
-    let mut source = RecordSource::new(bytes, opened.start);
+fn show_samples(rt: &impl Print, bytes: &[u8], opened: Opened) -> io::Result<()> {
+    let Opened { samples, start } = opened;
+    println!(rt; "{samples} samples, the first at byte {start}")?;
+    let mut source = RecordSource::new(bytes, start);
+    // A source is peeked at and stepped, and is no iterator: its ending says why there is no more.
     for _ in 0..samples.min(FIRST_FEW) {
         match source.peek() {
             Ok(sample) => show_sample(rt, sample)?,
@@ -63,15 +63,14 @@ fn show_samples(rt: &HostRuntime, bytes: &[u8], opened: Opened) -> io::Result<()
     Ok(())
 }
 
-fn show_sample(rt: &HostRuntime, sample: Sample) -> io::Result<()> {
-    let stamp = sample.stamp();
+// The program's own lines, which no other program would want of a `Display`.
+
+fn show_sample(rt: &impl Print, sample: Sample) -> io::Result<()> {
     let [a, b, c, d] = sample.codes();
-    println!(rt; "{stamp:8}: {a:4} {b:4} {c:4} {d:4}")
+    println!(rt; "{:8}: {a:4} {b:4} {c:4} {d:4}", sample.stamp())
 }
 
-fn show_ending(rt: &HostRuntime, ending: Ending) -> io::Result<()> {
-    let refusal = ending.refusal();
-    let number = refusal.number();
-    let place = refusal.place();
-    println!(rt; "{refusal} {number} at {place}")
+fn show_ending(rt: &impl Print, ending: Ending) -> io::Result<()> {
+    let refusal = Refusal::from(ending);
+    println!(rt; "{refusal} {} at {}", refusal.number(), refusal.place())
 }

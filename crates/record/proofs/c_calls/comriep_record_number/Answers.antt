@@ -1,12 +1,9 @@
-use Rattle.std.proofs.Common.{inr, arith}
-use Rattle.record.proofs.Exact.{never, numbered}
+use Rattle.std.proofs.Common.{rules}
+use Rattle.refusal.specs.Table.{number_of}
+use Rattle.record.proofs.Exact.{told, told_opens}
 use Rattle.record.proofs.c_calls.comriep_record_number.Goals as goal
 
-pub returns-in-Err : goal.returns-in-Err
-returns-in-Err c =
-    let broken = c.in-Err.ensures.told in
-    record {
-      told = inr (c.in-Err.misfit, broken, c.number.ensures);
-      opens = λ o. absurd (never c.args.bytes.now o.0 o.1 o.2 c.in-Err.misfit broken);
-      only = λ e. absurd (let n = numbered c.args.bytes.now c.in-Err.misfit broken in let z : ⊥ = omega arith in z);
-    }
+pub returns : goal.returns
+returns c =
+    let number = told (λ m. number_of m.refusal) c.args.bytes.now c.refused.result c.map_or.result c.refused.ensures c.map_or.ensures (λ m k. search rules) in
+    record { told = number; opens = told_opens _ _ _ number; only = search rules }

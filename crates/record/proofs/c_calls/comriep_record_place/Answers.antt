@@ -1,11 +1,8 @@
-use Rattle.std.proofs.Common.{refl, inr}
-use Rattle.record.proofs.Exact.{never}
+use Rattle.std.proofs.Common.{rules}
+use Rattle.record.proofs.Exact.{told, told_opens}
 use Rattle.record.proofs.c_calls.comriep_record_place.Goals as goal
 
-pub returns-in-Err : goal.returns-in-Err
-returns-in-Err c =
-    let broken = c.in-Err.ensures.told in
-    record {
-      told = inr (c.in-Err.misfit, broken, refl);
-      opens = λ o. absurd (never c.args.bytes.now o.0 o.1 o.2 c.in-Err.misfit broken);
-    }
+pub returns : goal.returns
+returns c =
+    let place = told (λ m. m.place) c.args.bytes.now c.refused.result c.map_or.result c.refused.ensures c.map_or.ensures (λ m k. search rules) in
+    record { told = place; opens = told_opens _ _ _ place }

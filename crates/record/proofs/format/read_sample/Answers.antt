@@ -1,10 +1,7 @@
-use Rattle.std.proofs.Common.{refl}
-use Rattle.record.specs.Format.{two, eight}
-use Rattle.record.proofs.Bytes.{sample_parts}
+use Rattle.std.proofs.Common.{arith, rules}
+use Rattle.record.proofs.Bytes.{bytes_of, sample_written}
 use Rattle.record.proofs.format.read_sample.Goals as goal
 
-pub returns : goal.returns
-returns c = record {
-  spells = sample_parts (eight c.read_u64.result) (two c.read_u16.result) (two c.read_u16-2.result) (two c.read_u16-3.result) (two c.read_u16-4.result) c.args.bytes.now c.requires c.read_u64.ensures c.read_u16.ensures c.read_u16-2.ensures c.read_u16-3.ensures c.read_u16-4.ensures;
-  four = refl;
-}
+pub returns-clause-spells : goal.returns-clause-spells
+returns-clause-spells c =
+    sample_written c.args.bytes.now (bytes_of c.args.bytes.now (λ i. search rules)) (search rules) _ _ _ _ _ (omega arith) (omega arith) (omega arith) (omega arith) (omega arith)

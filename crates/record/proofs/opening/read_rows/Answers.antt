@@ -1,8 +1,10 @@
-use Rattle.std.proofs.Common.{◌∙◌, arith, length-set}
-use Rattle.record.proofs.Sections.{rows_more}
+use Rattle.std.proofs.Common.{◌≡◌, refl, arith, rules}
+use Rattle.record.proofs.Sections.{rows_read, made_at}
 use Rattle.record.proofs.opening.read_rows.Goals as goal
 
-pub loop-i-preserved : goal.loop-i-preserved
-loop-i-preserved c =
-    let inv = c.loop-i.invariant in
-    (length-set _ _ _ ∙ inv.0, rows_more c.args.bytes.now c.loop-i.rows c.loop-i.i _ c.read_node.result (omega arith) (omega arith) inv.1 c.read_node.ensures)
+pub returns-clause-rows : goal.returns-clause-rows
+returns-clause-rows c =
+    let items = c.from_fn.ensures.items in
+    let nodes = c.args.nodes.now in
+    rows_read c.from_fn.result nodes (let long = items.long in omega arith)
+    (λ i e k. made_at nodes c.from_fn.result (λ f. f.0.now ≡ nodes) (λ f q i row h kept called. search rules) _ 0 32 i e (omega arith) (omega arith) k refl items.each)
