@@ -1,5 +1,6 @@
 pub mod Runs
-pub mod Rings
+pub mod Passing
+pub mod Downwards
 pub mod Connect
 pub mod Places
 pub mod Same

@@ -1,17 +1,8 @@
 -- Places in the memory. Assumes nothing.
-use Rattle.std.proofs.Common.{◌≡◌, ℕ, ◌+◌, ◌*◌, ◌/◌, ◌%◌, ◌<◌, ◌≤◌, ◌≢◌, List, length, mul-le-mul_right, mod-lt, add-mul, mul-le-mul_left, arith}
+use Rattle.std.proofs.Common.{◌≡◌, ℕ, ◌+◌, ◌*◌, ◌/◌, ◌%◌, ◌<◌, ◌≤◌, ◌≢◌, mul-le-mul_right, mod-lt, mul-le-mul_left, arith}
 use native.Mathlib.Nat.{div-add-mod}
 use native.Mathlib.Decide.{dec_lt}
-use Rattle.evaluation.specs.Memory.{Room, place}
-use Rattle.evaluation.specs.declared.memory.Cell.{Cell}
-use Rattle.sample.specs.declared.row.SampleRow.{SampleRow}
-
-module _ {rows : List SampleRow} {cells : List Cell} {first count m : ℕ} (room : Room rows cells first count m) where
-  pub room_fits : (a : ℕ) → a < m → (a + 1) * length rows ≤ length cells
-  room_fits a h = let p : (a + 1) * length rows ≤ m * length rows = mul-le-mul_right (length rows) (omega arith) in omega arith
-
-  pub room_below : (a : ℕ) → a < m → Room rows cells first count (a + 1)
-  room_below a h = record { some = room.some; fits = room_fits a h; near = room.near }
+use Rattle.evaluation.specs.Memory.{place}
 
 -- positions less than C apart have different places
 pub apart : (C p q : ℕ) → p < q → q < p + C → p % C ≢ q % C
@@ -34,6 +25,8 @@ place_earlier C a m p q some h e =
     let r : p % C < C = mod-lt p some in
     omega arith
 
--- the cell of an earlier node is in the memory
-pub room_place : {rows : List SampleRow} {cells : List Cell} {first count m : ℕ} (room : Room rows cells first count m) (a i : ℕ) → a < m → i < length rows → a * length rows + i < length cells
-room_place {rows} {cells} room a i h l = let f = room_fits room a h in let e = add-mul a 1 (length rows) in omega arith
+pub place_below : (C a m p : ℕ) → 0 < C → a < m → place C a p < m * C
+place_below C a m p some h =
+    let t : (a + 1) * C ≤ m * C = mul-le-mul_right C (omega arith) in
+    let r : p % C < C = mod-lt p some in
+    omega arith

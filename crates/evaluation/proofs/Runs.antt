@@ -14,18 +14,17 @@ module _ {V : Type 0} (O : Ops V) where
     unfolding run
     run_none p q = ap₂ (λ x y. record { found = x; so_far = y }) p q
 
-    pub run_more :
-        (k : ℕ) (p : Pass V) {found so_far left right : V} {test : Bool} →
+    pub run_then :
+        (k : ℕ) (p : Pass V) {q : Pass V} {left right : V} {test : Bool} →
         p ≡ run O W A B k →
+        q ≡ step O p test left right →
         test ≡ W k →
         left ≡ A k →
         right ≡ B k →
-        found ≡ cond test (O.or p.found (O.and p.so_far right)) p.found →
-        so_far ≡ O.and p.so_far left →
-        record { found = found; so_far = so_far } ≡ run O W A B (k + 1)
+        q ≡ run O W A B (k + 1)
     unfolding run
-    run_more k p e t l r f s =
-        ap₂ (λ x y. record { found = x; so_far = y }) f s
+    run_then k p e q t l r =
+        q
         ∙ ap₃ (λ x a b. step O p x a b) t l r
         ∙ ap (λ q. step O q (W k) (A k) (B k)) e
         ∙ ap (run O W A B) (sym (add-one k))
@@ -55,11 +54,11 @@ module _ {V : Type 0} (O : Ops V) where
       ap (λ q. step O q (W c) (A c) (B c)) (run_same W W' A A' B B' c (λ i l. h i (omega arith)))
       ∙ ap₃ (λ x a b. step O (run O W' A' B' c) x a b) e.0 e.1 e.2
 
-module _ {V : Type 0} {O : Ops V} (L : Laws O) (W : ℕ → Bool) (A B : ℕ → V) where
-  or_when : (b : Bool) (x y : V) → cond b (O.or x y) x ≡ O.or x (when O b y)
-  or_when true x y = refl
-  or_when false x y = sym (or-worst L x)
+pub or_when : {V : Type 0} {O : Ops V} → Laws O → (b : Bool) (x y : V) → cond b (O.or x y) x ≡ O.or x (when O b y)
+or_when L true x y = refl
+or_when L false x y = sym (or-worst L x)
 
+module _ {V : Type 0} {O : Ops V} (L : Laws O) (W : ℕ → Bool) (A B : ℕ → V) where
   -- forwards from j
   pub run_on :
       (j c : ℕ) →
@@ -70,7 +69,7 @@ module _ {V : Type 0} {O : Ops V} (L : Laws O) (W : ℕ → Bool) (A B : ℕ →
   run_on j (suc c) =
       let p = run_on j c in
       let e : c ≡ (j + c) - j = omega arith in (
-        or_when (W (j + c)) _ _
+        or_when L (W (j + c)) _ _
             ∙ ap₂ O.or p.0 (ap (λ x. when O (W (j + c)) (O.and x (B (j + c)))) (p.1 ∙ ap (λ x. all O j x A) e)),
         ap (λ x. O.and x (A (j + c))) p.1,
       )
@@ -108,7 +107,7 @@ module _ {V : Type 0} {O : Ops V} (L : Laws O) (W : ℕ → Bool) (A B : ℕ →
       let len : c ≡ j - k = omega arith in
       let f : ℕ → V = λ i. when O (W i) (O.and (all O (suc i) (j - i) A) (B i)) in
       rw here (
-        or_when (W k) _ _
+        or_when L (W k) _ _
             ∙ ap₂ O.or p.0 (ap (λ x. when O (W k) (O.and x (B k))) (p.1 ∙ ap (λ x. all O (suc k) x A) len))
             ∙ any_first f k c,
         ap (λ x. O.and x (A k)) p.1 ∙ all_first A k c,

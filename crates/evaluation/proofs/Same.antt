@@ -1,5 +1,5 @@
 -- What a node's ends rest on, and that they are the ends of its formula. Assumes nothing.
-use Rattle.std.proofs.Common.{◌≡◌, ℕ, suc, ◌<◌, T, ltb, List, length, get_or, take, sym, refl, ap, ◌∙◌, ap₂, arith, ltb→lt}
+use Rattle.std.proofs.Common.{◌≡◌, ℕ, suc, ◌+◌, ◌<◌, T, ltb, List, length, get_or, take, sym, refl, ap, ◌∙◌, ap₂, subst, arith, ltb→lt}
 use Rattle.std.proofs.lemmas.List.{get_or-take}
 use Rattle.scale.specs.Laws.{Ops}
 use Rattle.logic.specs.Values.{when}
@@ -12,9 +12,12 @@ use Rattle.rule.specs.Tables.{tabled, Sound, formula_of, formula_at}
 use Rattle.rule.specs.declared.node.Node.{Node}
 use Rattle.rule.specs.declared.node.Node.TheVariants.{True, Level, Not, Or, And, Next, Yesterday, Until, Since}
 use Rattle.rule.proofs.Entries.{entry}
-use Rattle.evaluation.specs.Memory.{kept_ends}
+use Rattle.evaluation.specs.Memory.{Climbs, cell_at, ends_in}
 use Rattle.evaluation.specs.Nodes.{node_ends}
+use Rattle.evaluation.specs.Views.{trace_in, cell_in, ends_at}
 use Rattle.evaluation.specs.declared.memory.Cell.{Cell}
+use Rattle.evaluation.specs.declared.ring.Ring.{Ring}
+use Rattle.evaluation.specs.declared.view.View.{View}
 
 module _ {V : Type 0} where
   two : {a b c d : V} → a ≡ b → c ≡ d → ◌≡◌ {A = Ends V} (record { low = a; high = c }) (record { low = b; high = d })
@@ -85,5 +88,18 @@ module _ {V : Type 0} (O : Ops V) (read : ℕ → ℕ → V) (σ : Trace) where
       ∙ ap (λ φ. ends O read σ φ j) (sym (entry formula_of formula_local ns sound m truth h))
 
 -- a node may be given in other words
-pub at_node : {V : Type 0} (o : Ops V) (σ : Trace) (read : ℕ → ℕ → V) (E : ℕ → ℕ → Ends V) (j : ℕ) {c : Cell} {n n' : Node} → n' ≡ n → c ≡ kept_ends o (node_ends o σ read E n j) → c ≡ kept_ends o (node_ends o σ read E n' j)
-at_node o σ read E j e h = h ∙ ap (λ n. kept_ends o (node_ends o σ read E n j)) (sym e)
+pub at_node : {V : Type 0} (o : Ops V) (σ : Trace) (read : ℕ → ℕ → V) (E : ℕ → ℕ → Ends V) (j : ℕ) {e : Ends V} {n n' : Node} → n' ≡ n → e ≡ node_ends o σ read E n j → e ≡ node_ends o σ read E n' j
+at_node o σ read E j e h = h ∙ ap (λ n. node_ends o σ read E n j) (sym e)
+
+-- what is read from a node's ring is what is read from the memory that the ring is in
+pub ring_is : {V : Type 0} (o : Ops V) (v : View) (cells : List Cell) (r : Ring) (a : ℕ) → ((k : ℕ) → cell_in r k ≡ cell_at cells (length v.rows.now) a (v.start + k)) → ends_at o r ≡ ends_in o cells (length v.rows.now) v.start a
+ring_is o v cells r a h = λ i k. record { low = o.restored (h k i).low; high = o.restored (h k i).high }
+
+-- what a connective gives over the ring of a node, in the words of the memory that the ring is in
+pub over_ring :
+    {V : Type 0} (F : Trace → (ℕ → Ends V) → Ends V) (v : View) {w : View} {e : Ends V} {A A' : ℕ → Ends V} →
+    w ≡ v →
+    A ≡ A' →
+    (Climbs (trace_in w) → e ≡ F (trace_in w) A) →
+    Climbs (trace_in v) → e ≡ F (trace_in v) A'
+over_ring F v q p f up = f (subst (λ w. Climbs (trace_in w)) (sym q) up) ∙ ap₂ F (ap trace_in q) p

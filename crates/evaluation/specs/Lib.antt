@@ -1,5 +1,7 @@
 pub mod Memory
+pub mod Told
+pub mod Views
 pub mod Pass
-pub mod Searches
+pub mod Passes
 pub mod Connectives
 pub mod Nodes

@@ -4,24 +4,31 @@ ghost use Rattle.refusal.specs.declared.Refusal.TheVariants.{Memory};
 ghost use Rattle.rule.specs.Made.{nodes_of};
 ghost use Rattle.evaluation.specs.Nodes.{Asked, Evaluated};
 
-use crate::memory::{Cell, Window};
-use crate::nodes::evaluate_nodes;
+use crate::memory::Cell;
+use crate::view::View;
 use refusal::Refusal;
 use rule::Rule;
 use sample::SampleRow;
 use scale::{Scale, TestScale};
 
-/// Whether there are places for all positions and cells for all nodes.
-fn has_room(places: usize, cells: usize, window: Window, from: usize, nodes: usize) -> bool
-    ensures { Decides result (Asked places cells window.first window.count from nodes) }
+/// Whether there are places for all positions and cells for all nodes: the six numbers of `Asked`, which nothing else has together.
+fn has_room(
+    places: usize,
+    cells: usize,
+    first: u64,
+    count: usize,
+    from: usize,
+    nodes: usize,
+) -> bool
+    ensures { Decides result (Asked places cells first count from nodes) }
 {
-    if places == 0 || nodes > cells / places {
+    if places == 0 || count > places || from > count {
         return false;
     }
-    if window.count > places || from > window.count {
+    if nodes > cells / places {
         return false;
     }
-    window.first.checked_add(window.count as u64).is_some()
+    first.checked_add(count as u64).is_some()
 }
 
 /// Evaluates a rule over the positions `first` to `first + count - 1`, whose samples lie in a ring of as many places as there are rows.
@@ -40,10 +47,9 @@ pub fn evaluate<S: TestScale>(
     ensures { MatchResult result (λ _. Asked (length rows.now) (length cells.old) first count from (length (nodes_of rule.now)) × Evaluated S.Scale.ops S.TestScale.reading rows.now first count from (nodes_of rule.now) cells.old cells.new) (λ why. (why ≡ Memory) × (Asked (length rows.now) (length cells.old) first count from (length (nodes_of rule.now)) → ⊥) × (cells.new ≡ cells.old)) }
 {
     let nodes = rule.nodes();
-    let window = Window { first, count };
-    if !has_room(rows.len(), cells.len(), window, from, nodes.len()) {
+    if !has_room(rows.len(), cells.len(), first, count, from, nodes.len()) {
         return Err(Refusal::Memory);
     }
-    evaluate_nodes::<S>(nodes, rows, cells, window, from);
+    View::new(rows, first, count).evaluate::<S>(nodes, cells, from);
     Ok(())
 }

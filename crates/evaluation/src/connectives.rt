@@ -1,196 +1,79 @@
-// The cell of each kind of node at the j-th position of a window, from the cells of its operands.
-ghost use Rattle.std.specs.Prelude.{◌≡◌, ◌+◌, ◌^◌, ◌<◌, ◌≤◌, ◌&&◌, length, if◌then◌else◌, nat_le};
-ghost use Rattle.rule.specs.Limits.{largest_channel};
+// The ends of a node that looks at other positions, from the rings of its operands.
+ghost use Rattle.std.specs.Prelude.{◌≡◌, ◌<◌};
 ghost use Rattle.evaluation.specs.Connectives.{until_ends, since_ends, next_ends, yesterday_ends};
-ghost use Rattle.evaluation.specs.Memory.{Climbs, Room, window as positions, ends_in, kept_ends, side_of};
-ghost use Rattle.evaluation.specs.declared.memory.End.TheVariants.{Low, High};
+ghost use Rattle.evaluation.specs.Memory.{Climbs};
+ghost use Rattle.evaluation.specs.Passes.{ends_near};
+ghost use Rattle.evaluation.specs.Told.{told};
+ghost use Rattle.evaluation.specs.Views.{trace_in, ends_at};
 
-use crate::memory::{Cell, End, Window, cell_of, end_in, place_of, stamp_in};
-use crate::search::{Bounds, Rings, seek, seek_back};
-use sample::SampleRow;
-use scale::{Code, Scale, TestScale};
+use crate::ends::Ends;
+use crate::pass::{Bounds, Seen};
+use crate::ring::Ring;
+use scale::Scale;
 
-/// Whether a stamp is within the bounds after another.
-fn inside(from: u64, to: u64, bounds: Bounds) -> bool
-    requires { from < 2 ^ 40 }
-    ensures { result ≡ (nat_le (from + bounds.low) to && nat_le to (from + bounds.high)) }
-{
-    from + u64::from(bounds.low) <= to && to <= from + u64::from(bounds.high)
-}
-
-/// The value where the test holds, else worst.
-fn when_of<S: Scale>(test: bool, value: S) -> S
-    ensures { result ≡ (if test then value else S.ops.worst) }
-{
-    if test { value } else { S::worst() }
-}
-
-pub(crate) fn level_cell<S: TestScale>(
-    rows: &[SampleRow],
-    window: Window,
-    channel: usize,
-    level: Code,
-    j: usize,
-) -> Cell
-    requires some { 0 < length rows.now }
-    requires near { window.first + window.count < 2 ^ 64 }
-    requires channel { channel ≤ largest_channel }
-    requires j { j < window.count }
-    ensures { result ≡ kept_ends S.Scale.ops (record { low = S.TestScale.reading ((positions rows.now window.first window.count).code j channel) level.value; high = S.TestScale.reading ((positions rows.now window.first window.count).code j channel) level.value }) }
-{
-    let row = rows[place_of(window.first + j as u64, rows.len())];
-    let value = S::read(Code::nearest(row.codes[channel]), level);
-    cell_of(value, value)
-}
-
-pub(crate) fn not_cell<S: Scale>(cells: &[Cell], place: usize) -> Cell
-    requires { place < length cells.now }
-    ensures { result ≡ kept_ends S.ops (record { low = S.ops.turned (side_of S.ops High cells.now place); high = S.ops.turned (side_of S.ops Low cells.now place) }) }
-{
-    let below: S = end_in(cells, place, End::Low);
-    let above: S = end_in(cells, place, End::High);
-    cell_of(above.turn_over(), below.turn_over())
-}
-
-pub(crate) fn or_cell<S: Scale>(cells: &[Cell], a: usize, b: usize) -> Cell
-    requires a { a < length cells.now }
-    requires b { b < length cells.now }
-    ensures { result ≡ kept_ends S.ops (record { low = S.ops.or (side_of S.ops Low cells.now a) (side_of S.ops Low cells.now b); high = S.ops.or (side_of S.ops High cells.now a) (side_of S.ops High cells.now b) }) }
-{
-    let below: S = end_in::<S>(cells, a, End::Low).or(end_in(cells, b, End::Low));
-    let above: S = end_in::<S>(cells, a, End::High).or(end_in(cells, b, End::High));
-    cell_of(below, above)
-}
-
-pub(crate) fn and_cell<S: Scale>(cells: &[Cell], a: usize, b: usize) -> Cell
-    requires a { a < length cells.now }
-    requires b { b < length cells.now }
-    ensures { result ≡ kept_ends S.ops (record { low = S.ops.and (side_of S.ops Low cells.now a) (side_of S.ops Low cells.now b); high = S.ops.and (side_of S.ops High cells.now a) (side_of S.ops High cells.now b) }) }
-{
-    let below: S = end_in::<S>(cells, a, End::Low).and(end_in(cells, b, End::Low));
-    let above: S = end_in::<S>(cells, a, End::High).and(end_in(cells, b, End::High));
-    cell_of(below, above)
-}
-
-pub(crate) fn next_cell<S: Scale>(
-    rows: &[SampleRow],
-    cells: &[Cell],
-    window: Window,
-    a: usize,
-    bounds: Bounds,
-    j: usize,
-) -> Cell
-    requires room { Room rows.now cells.now window.first window.count (a + 1) }
-    requires j { j < window.count }
-    ensures { result ≡ kept_ends S.ops (next_ends S.ops (positions rows.now window.first window.count) bounds.low bounds.high (ends_in S.ops cells.now (length rows.now) window.first a) j) }
-{
-    let size = rows.len();
-    let k = j + 1;
-    if k < window.count {
-        let from = stamp_in(rows, place_of(window.first + j as u64, size));
-        let place = place_of(window.first + k as u64, size);
-        let to = stamp_in(rows, place);
-        let test = inside(from, to, bounds);
-        let below: S = when_of(test, end_in(cells, a * size + place, End::Low));
-        let above: S = when_of(test, end_in(cells, a * size + place, End::High));
-        cell_of(below, above)
-    } else {
-        let below: S = S::worst();
-        let above: S = when_of(1 <= bounds.high, S::best());
-        cell_of(below, above)
+// Each call asks for a position of the view, as a read of a slice asks for an index: a position and its view as one value would be no
+// plainer, since each also reads at other positions. Bounds are the node's and j the loop's. Two rings of one view stand in no struct: it
+// would serve until and since alone.
+impl Ring<'_> {
+    /// The ends at position k where it is within the bounds of position j, else worst.
+    fn ends_near<S: Scale>(&self, bounds: Bounds, j: usize, k: usize) -> Ends<S>
+        requires j { j < self.now.view.count }
+        requires k { k < self.now.view.count }
+        ensures { told result ≡ ends_near S.ops self.now bounds.low bounds.high j k }
+    {
+        let test = bounds.contain(self.view.gap(j, k));
+        self.at::<S>(k).only_if(test)
     }
-}
 
-pub(crate) fn yesterday_cell<S: Scale>(
-    rows: &[SampleRow],
-    cells: &[Cell],
-    window: Window,
-    a: usize,
-    bounds: Bounds,
-    j: usize,
-) -> Cell
-    requires room { Room rows.now cells.now window.first window.count (a + 1) }
-    requires j { j < window.count }
-    ensures { result ≡ kept_ends S.ops (yesterday_ends S.ops (positions rows.now window.first window.count) bounds.low bounds.high (ends_in S.ops cells.now (length rows.now) window.first a) j) }
-{
-    let size = rows.len();
-    if j == 0 {
-        let worst: S = S::worst();
-        return cell_of(worst, worst);
+    /// Next: the ends at the position after j; after the newest one, unknown where the high bound leaves room for a sample to come.
+    pub fn next<S: Scale>(&self, bounds: Bounds, j: usize) -> Ends<S>
+        requires { j < self.now.view.count }
+        ensures { Climbs (trace_in self.now.view) → told result ≡ next_ends S.ops (trace_in self.now.view) bounds.low bounds.high (ends_at S.ops self.now) j }
+    {
+        if j + 1 < self.view.count {
+            return self.ends_near(bounds, j, j + 1);
+        }
+        let unknown: Ends<S> = Ends {
+            low: S::worst(),
+            high: S::best(),
+        };
+        unknown.only_if(1 <= bounds.high)
     }
-    let place = place_of(window.first + (j - 1) as u64, size);
-    let from = stamp_in(rows, place);
-    let to = stamp_in(rows, place_of(window.first + j as u64, size));
-    let test = inside(from, to, bounds);
-    let below: S = when_of(test, end_in(cells, a * size + place, End::Low));
-    let above: S = when_of(test, end_in(cells, a * size + place, End::High));
-    cell_of(below, above)
-}
 
-pub(crate) fn until_cell<S: Scale>(
-    rows: &[SampleRow],
-    cells: &[Cell],
-    window: Window,
-    a: usize,
-    b: usize,
-    bounds: Bounds,
-    j: usize,
-) -> Cell
-    requires a { Room rows.now cells.now window.first window.count (a + 1) }
-    requires b { Room rows.now cells.now window.first window.count (b + 1) }
-    requires j { j < window.count }
-    ensures { Climbs (positions rows.now window.first window.count) → result ≡ kept_ends S.ops (until_ends S.ops (positions rows.now window.first window.count) bounds.low bounds.high (ends_in S.ops cells.now (length rows.now) window.first a) (ends_in S.ops cells.now (length rows.now) window.first b) j) }
-{
-    let size = rows.len();
-    let rings = Rings {
-        a: a * size,
-        b: b * size,
-    };
-    let start = place_of(window.first + j as u64, size);
-    let from = stamp_in(rows, start);
-    let earliest = from + u64::from(bounds.low);
-    let latest = from + u64::from(bounds.high);
-    let count = window.count - j;
-    let below: (S, S) = seek(rows, cells, rings, start, count, earliest, latest, End::Low);
-    let above: (S, S) = seek(
-        rows,
-        cells,
-        rings,
-        start,
-        count,
-        earliest,
-        latest,
-        End::High,
-    );
-    let newest = stamp_in(
-        rows,
-        place_of(window.first + (window.count - 1) as u64, size),
-    );
-    let widening = when_of(newest < latest, above.1);
-    cell_of(below.0, above.0.or(widening))
-}
+    /// Yesterday: the ends at the position before j.
+    pub fn yesterday<S: Scale>(&self, bounds: Bounds, j: usize) -> Ends<S>
+        requires { j < self.now.view.count }
+        ensures { Climbs (trace_in self.now.view) → told result ≡ yesterday_ends S.ops (trace_in self.now.view) bounds.low bounds.high (ends_at S.ops self.now) j }
+    {
+        if j == 0 {
+            return Ends::both(S::worst());
+        }
+        self.ends_near(bounds, j, j - 1)
+    }
 
-pub(crate) fn since_cell<S: Scale>(
-    rows: &[SampleRow],
-    cells: &[Cell],
-    window: Window,
-    a: usize,
-    b: usize,
-    bounds: Bounds,
-    j: usize,
-) -> Cell
-    requires a { Room rows.now cells.now window.first window.count (a + 1) }
-    requires b { Room rows.now cells.now window.first window.count (b + 1) }
-    requires j { j < window.count }
-    ensures { Climbs (positions rows.now window.first window.count) → result ≡ kept_ends S.ops (since_ends S.ops (positions rows.now window.first window.count) bounds.low bounds.high (ends_in S.ops cells.now (length rows.now) window.first a) (ends_in S.ops cells.now (length rows.now) window.first b) j) }
-{
-    let size = rows.len();
-    let rings = Rings {
-        a: a * size,
-        b: b * size,
-    };
-    let start = place_of(window.first + j as u64, size);
-    let below: S = seek_back(rows, cells, rings, start, j + 1, bounds, End::Low);
-    let above: S = seek_back(rows, cells, rings, start, j + 1, bounds, End::High);
-    cell_of(below, above)
+    /// Until, with this node on the left. While samples to come can be within the bounds, the high end is also what the left one holds so
+    /// far.
+    pub fn until<S: Scale>(&self, right: &Ring, bounds: Bounds, j: usize) -> Ends<S>
+        requires same { right.now.view ≡ self.now.view }
+        requires j { j < self.now.view.count }
+        ensures { Climbs (trace_in self.now.view) → told result ≡ until_ends S.ops (trace_in self.now.view) bounds.low bounds.high (ends_at S.ops self.now) (ends_at S.ops right.now) j }
+    {
+        let Seen { found, so_far } = self.pass::<S, _>(right, bounds, j, j..self.view.count);
+        if self.view.gap(j, self.view.count - 1) < u64::from(bounds.high) {
+            let high = found.high.or(so_far.high);
+            return Ends { high, ..found };
+        }
+        found
+    }
+
+    /// Since, with this node on the left.
+    pub fn since<S: Scale>(&self, right: &Ring, bounds: Bounds, j: usize) -> Ends<S>
+        requires same { right.now.view ≡ self.now.view }
+        requires j { j < self.now.view.count }
+        ensures { Climbs (trace_in self.now.view) → told result ≡ since_ends S.ops (trace_in self.now.view) bounds.low bounds.high (ends_at S.ops self.now) (ends_at S.ops right.now) j }
+    {
+        // Half open: an inclusive range also tests at each step whether it is exhausted.
+        let back = (0..j + 1).rev();
+        self.pass::<S, _>(right, bounds, j, back).found
+    }
 }

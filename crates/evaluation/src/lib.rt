@@ -3,9 +3,12 @@
 
 mod call;
 mod connectives;
+mod ends;
 mod memory;
 mod nodes;
-mod search;
+mod pass;
+mod ring;
+mod view;
 
 pub use call::evaluate;
 pub use memory::Cell;
