@@ -13,7 +13,9 @@ use Rattle.world.specs.Law.{Law}
 use Rattle.world.specs.Steps.{held, places_in, after, answers}
 use Rattle.world.specs.World.{World, unused}
 use Rattle.world.specs.declared.answer.Answer.{Answer}
+use Rattle.world.specs.declared.answer.Answer.TheVariants as answer
 use Rattle.world.specs.declared.call.Call.{Call}
+use Rattle.world.specs.declared.refused.Refused.{Refused}
 use Rattle.watch.specs.Calls.{Promise}
 use Rattle.watch.specs.Memory.{Memory, sizes}
 use Rattle.watch.specs.Stands.{Stands, Unused, last_armed}
@@ -27,17 +29,11 @@ module _ {V : Type 0} (ops : Ops V) (read : ℕ → ℕ → V) where
   Made (c ∷ cs) (a ∷ xs) m m' = (n : Memory V) × Promise ops read c m n a × Made cs xs n m'
 
   abbrev pub with_rows : {R : Type 0} → Ring R → List R → Ring R
-  with_rows ring rows = record { rows = rows; taken = ring.taken; kept = ring.kept; last = ring.last }
+  with_rows ring rows = record ring { rows = rows }
 
   -- memory with other rows in strip and tray, and other cells
   abbrev pub with_contents : Memory V → List SampleRow → List Cell → List ReadingRow → Memory V
-  with_contents m rows cells readings = record {
-    watch = m.watch;
-    strip = with_rows m.strip rows;
-    cells = cells;
-    tray = with_rows m.tray readings;
-    coming = m.coming;
-  }
+  with_contents m rows cells readings = record m { strip = with_rows m.strip rows; cells = cells; tray = with_rows m.tray readings }
 
   -- what a caller may write over: rows and cells of positions that are not held, all cells of nodes before the last, and places of the
   -- tray that have no reading; memory then stands for the same world
@@ -49,6 +45,11 @@ module _ {V : Type 0} (ops : Ops V) (read : ℕ → ℕ → V) where
       ((p : ℕ) → held w p ≡ true → cell_at cells (places_in w) (last_armed w.armed) p ≡ cell_at m.cells (places_in w) (last_armed w.armed) p) →
       contents (with_rows m.tray readings) ≡ contents m.tray →
       Stands ops read w (with_contents m rows cells readings)
+
+-- the whole answer to a call: what it answers where it is accepted, or the refusal
+abbrev pub said : {V : Type 0} → Result (Answer V) Refused → Answer V
+said (Ok answer) = answer
+said (Err why) = answer.Refused why
 
 -- told and told' are the answers' places before and after
 pub record Replayed {V : Type 0} (ops : Ops V) (read : ℕ → ℕ → V) (calls : List Call) (m m' : Memory V) (told told' : List (Answer V)) (r : Result (Unit {0}) Refusal) : Type 0 where

@@ -1,7 +1,6 @@
 //! Replaying a list of calls on a watch. The contract of `replay` has the law of every run.
 #![tactic(auto)]
 
-mod answers;
 mod runs;
 mod serve;
 

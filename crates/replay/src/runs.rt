@@ -3,7 +3,7 @@ ghost use Rattle.strip.specs.Ring.{ring_of};
 ghost use Rattle.watch.specs.Memory.{memory};
 ghost use Rattle.replay.specs.Replayed.{Replayed};
 
-use crate::serve::serve;
+use crate::serve::{said, serve};
 use evaluation::Cell;
 use refusal::Refusal;
 use sample::{SampleRow, Source};
@@ -12,7 +12,8 @@ use strip::{Strip, Tray};
 use watch::Watch;
 use world::{Answer, Call};
 
-/// Stores a value in a place.
+/// Stores a value in a place. A loop over `iter_mut` beside the calls does not say what it wrote, and `answers[i] = ..` asks for the size
+/// of an enum over an open type, which nothing gives; this function is over any type.
 fn store<T: Copy>(places: &mut [T], place: usize, value: T)
     requires { place < length places.old }
     ensures { places.new ≡ slice_set places.old place value }
@@ -38,9 +39,9 @@ pub fn replay<S: TestScale, Q: Source>(
     if answers.len() < calls.len() {
         return Err(Refusal::Memory);
     }
-    for i in 0..calls.len() {
-        let answer = serve(watch, strip, cells, tray, source, calls[i]);
-        store(answers, i, answer);
+    for (i, call) in calls.iter().enumerate() {
+        let answer = serve(watch, strip, cells, tray, source, *call);
+        store(answers, i, said(answer));
     }
     Ok(())
 }

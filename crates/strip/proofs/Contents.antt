@@ -1,9 +1,9 @@
 -- The records that a ring keeps, one by one, and what each call makes of them. Assumes nothing.
-use Rattle.std.proofs.Common.{◌≡◌, ℕ, zero, suc, ◌+◌, ◌-◌, ◌%◌, ◌<◌, ◌≤◌, List, [], ◌∷◌, ◌++◌, length, get_or, drop, sym, refl, ap, ◌∙◌, ap₂, ⊎_elim, mod-lt, arith}
+use Rattle.std.proofs.Common.{◌≡◌, ℕ, ◌+◌, ◌-◌, ◌%◌, ◌<◌, ◌≤◌, [], ◌∷◌, ◌++◌, length, get_or, drop, sym, ap, ◌∙◌, ap₂, min, drop-cons, ⊎_elim, mod-lt, arith}
 use native.Mathlib.Nat.{mod-add-mod}
-use Rattle.std.proofs.lemmas.List.{get_or_append_left, get_or-drop, get_or_push, get_or_read, get_or-set_other, get_or-set_same, get_or-take, length-append, length-drop, length_push, length-set, length-take, same_lists}
+use Rattle.std.proofs.lemmas.List.{get_or_append_left, get_or-drop, get_or_push, get_or-set_other, get_or-set_same, get_or-take, length-append, length-drop, length_push, length-set, length-take, same_lists}
 use Rattle.std.proofs.lemmas.Bool.{cases_lt}
-use Rattle.strip.specs.Ring.{Ring, contents, oldest, place_of, unused, with_newest, with_row, without_oldest}
+use Rattle.strip.specs.Ring.{Ring, contents, oldest, place_of, with_newest, with_row, without_oldest}
 use Rattle.strip.proofs.Places.{apart, get_or-round}
 
 module _ {R : Type 0} (s : Ring R) (fits : s.kept ≤ length s.rows) where
@@ -25,9 +25,9 @@ module _ {R : Type 0} (s : Ring R) (fits : s.kept ≤ length s.rows) where
       let l : place_of s (oldest s) < n = mod-lt (oldest s) (omega arith) in
       get_or-take s.kept _ k d h ∙ get_or-drop (place_of s (oldest s)) (s.rows ++ s.rows) k d ∙ get_or-round s.rows (place_of s (oldest s) + k) d (omega arith) ∙ ap (λ p. get_or s.rows p d) (mod-add-mod (oldest s) n k)
 
--- an unused ring keeps nothing
-pub contents_unused : {R : Type 0} (rows : List R) → contents (unused rows) ≡ []
-contents_unused rows = refl
+-- a ring that keeps no record
+pub contents_none : {R : Type 0} (s : Ring R) → s.kept ≡ 0 → contents s ≡ []
+contents_none s none = rw none
 
 -- one more record comes last
 pub contents_push : {R : Type 0} (s : Ring R) → s.kept < length s.rows → s.kept ≤ s.taken → (stamp : ℕ) (row : R) → contents (with_row s stamp row) ≡ contents s ++ row ∷ []
@@ -76,20 +76,10 @@ contents_keep s fits some count =
 
 -- the oldest record comes first, before those that stay without it
 pub contents_remove : {R : Type 0} (s : Ring R) → 0 < s.kept → s.kept ≤ length s.rows → s.kept ≤ s.taken → (row : R) → row ≡ get_or s.rows (place_of s (oldest s)) row → contents s ≡ row ∷ contents (without_oldest s)
-contents_remove {R} s more fits some row is = same_lists _ _ lengths (λ k d h. at k d (omega (arith, size)))
-  where
-    size : length (contents s) ≡ s.kept
-    size = length-contents s fits
-
-    size_after : length (contents (without_oldest s)) ≡ s.kept - 1
-    size_after = length-contents (without_oldest s) (omega arith)
-
-    lengths : length (contents s) ≡ length (row ∷ contents (without_oldest s))
-    lengths = omega (arith, size, size_after)
-
-    at : (k : ℕ) (d : R) → k < s.kept → get_or (contents s) k d ≡ get_or (row ∷ contents (without_oldest s)) k d
-    at zero d h =
-        let l : place_of s (oldest s) < length s.rows = mod-lt (oldest s) (omega arith) in
-        get_or-contents s fits 0 d h ∙ ap (λ m. get_or s.rows (place_of s m) d) (let e : oldest s + 0 ≡ oldest s = omega arith in e) ∙ sym (get_or_read s.rows (place_of s (oldest s)) row l is d)
-    at (suc k) d h =
-        get_or-contents s fits (suc k) d h ∙ ap (λ m. get_or s.rows (place_of s m) d) (let e : oldest s + suc k ≡ oldest (without_oldest s) + k = omega arith in e) ∙ sym (get_or-contents (without_oldest s) (omega arith) k d (omega arith))
+contents_remove s more fits some row is =
+    let size = length-contents s fits in
+    let first : get_or (contents s) 0 row ≡ row = get_or-contents s fits 0 row more ∙ ap (λ m. get_or s.rows (place_of s m) row) (let e : oldest s + 0 ≡ oldest s = omega arith in e) ∙ sym is in
+    let m : min s.kept (s.kept - 1) ≡ s.kept - 1 = omega arith in
+    let one : s.kept - (s.kept - 1) ≡ 1 = omega arith in
+    let rest : contents (without_oldest s) ≡ drop 1 (contents s) = rw (m, one) at (contents_keep s fits some (s.kept - 1)) in
+    drop-cons (contents s) 0 row (omega arith) ∙ ap₂ (λ x xs. x ∷ xs) first (sym rest)

@@ -51,11 +51,11 @@ pushed s stamp row = elim (push_refusal s stamp) [ Some why ↦ s | None ↦ wit
 
 -- the ring with its oldest record let go
 abbrev pub without_oldest : {R : Type 0} → Ring R → Ring R
-without_oldest s = record { rows = s.rows; taken = s.taken; kept = s.kept - 1; last = s.last }
+without_oldest s = record s { kept = s.kept - 1 }
 
 -- the ring with its oldest records let go until at most this many are kept
 abbrev pub with_newest : {R : Type 0} → Ring R → ℕ → Ring R
-with_newest s count = record { rows = s.rows; taken = s.taken; kept = min s.kept count; last = s.last }
+with_newest s count = record s { kept = min s.kept count }
 
 -- the records that are kept, oldest first: from the place of the oldest on, and round the end to the first place
 abbrev pub contents : {R : Type 0} → Ring R → List R

@@ -6,7 +6,7 @@ use crate::stamped::Stamped;
 use sample::Sample;
 
 /// The plain row of a reading, as it lies in memory that was lent: the position in the capture, the stamp, and the kept number of the value.
-#[derive(Clone, Copy)]
+#[derive(Clone, Copy, PartialEq, Eq, Debug)]
 pub struct ReadingRow {
     pub position: u64,
     pub stamp: u64,
@@ -20,6 +20,6 @@ impl Stamped for ReadingRow {
     ghost early = { Prim.search rules };
 
     fn stamp(&self) -> u64 {
-        self.stamp.min(Sample::STAMP_LIMIT - 1)
+        Sample::nearest_stamp(self.stamp)
     }
 }

@@ -15,13 +15,14 @@ pub trait Stamped: Copy {
     ghost early: { (row : Self) → stamped row < stamp_limit };
 }
 
-/// The stamp of a sample's row, where one that is too late counts as the last that is not.
+/// The stamp of a sample's row, where one that is too late counts as the last that is not. A reading's row has the same line for itself: to
+/// have it once, the trait would have to ask for the stamp as it stands too.
 impl Stamped for SampleRow {
     ghost stamped = { λ r. min r.stamp (stamp_limit - 1) };
 
     ghost early = { Prim.search rules };
 
     fn stamp(&self) -> u64 {
-        self.stamp.min(Sample::STAMP_LIMIT - 1)
+        Sample::nearest_stamp(self.stamp)
     }
 }

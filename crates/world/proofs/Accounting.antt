@@ -5,7 +5,7 @@ use Rattle.std.specs.List.{range_with_len, AllByRecursion}
 use Rattle.sample.specs.Coming.{Coming}
 use Rattle.scale.specs.Laws.{Ops, Laws}
 use Rattle.world.proofs.Keep.{drawn, taken, pulled, captured}
-use Rattle.world.proofs.Moves.{first_of, accepts, holds_all}
+use Rattle.world.proofs.Moves.{first_of, unrefused}
 use Rattle.world.proofs.Start.{holds, after_join}
 use Rattle.world.proofs.Tallies.{counting_join}
 use Rattle.world.specs.Law.{world, got, draws, takes, pulls, Reads, Accounting}
@@ -21,24 +21,23 @@ module _ {V : Type 0} (ops : Ops V) (read : ℕ → ℕ → V) (s : Sizes) where
   -- what accepted draws, takes and pulls answer
   drew : (w : World V) (d : Drawn) → (step ops read s Draw w).1 ≡ answer.Drew d → d.position ≡ accepted w
   drew w d e =
-      let a = accepts ops read s Draw w (holds_all ops read s Draw w (λ why f. let z : ◌≡◌ {A = ℕ} 0 1 = cc in omega arith)) in
+      let a = (unrefused ops read s Draw w (λ why f. cc)).1 in
       let same : answered ops read Draw w ≡ answer.Drew d = sym (ap (λ x. x.1) a) ∙ e in
       let says : ◌≡◌ {A = Drawn} (record { position = accepted w; settled = newly ops read w (next_sample w) }) d = cc in
       sym (ap (λ x. x.position) says)
 
   took : (w : World V) (p : ℕ) → (step ops read s Take w).1 ≡ answer.Took p → p ≡ w.taken
   took w p e =
-      let a = accepts ops read s Take w (holds_all ops read s Take w (λ why f. let z : ◌≡◌ {A = ℕ} 0 1 = cc in omega arith)) in
+      let a = (unrefused ops read s Take w (λ why f. cc)).1 in
       let same : answered ops read Take w ≡ answer.Took p = sym (ap (λ x. x.1) a) ∙ e in
       cc
 
   pulled_off : (w : World V) (r : Reading V) → (step ops read s Pull w).1 ≡ answer.Pulled r → w.tray ≡ r ∷ (step ops read s Pull w).0.tray
   pulled_off w r e =
-      let h = holds_all ops read s Pull w (λ why f. let z : ◌≡◌ {A = ℕ} 0 1 = cc in omega arith) in
-      let a = accepts ops read s Pull w h in
-      let same : answered ops read Pull w ≡ answer.Pulled r = sym (ap (λ x. x.1) a) ∙ e in
+      let a = unrefused ops read s Pull w (λ why f. cc) in
+      let same : answered ops read Pull w ≡ answer.Pulled r = sym (ap (λ x. x.1) a.1) ∙ e in
       let says : oldest ops read w ≡ r = cc in
-      first_of w.tray (reading_in ops read w) h.0 ∙ ap₂ (λ x w'. x ∷ w'.tray) says (sym (ap (λ x. x.0) a))
+      first_of w.tray (reading_in ops read w) a.0.0 ∙ ap₂ (λ x w'. x ∷ w'.tray) says (sym (ap (λ x. x.0) a.1))
 
 module _ {V : Type 0} {ops : Ops V} (laws : Laws ops) (read : ℕ → ℕ → V) (s : Sizes) (source : Coming) where
   pub accounting : Accounting ops read s source

@@ -1,17 +1,16 @@
 -- Refusals change nothing, memory always fits, readings rise, and the held positions are the last ones, at most C. Assumes nothing.
-use Rattle.std.proofs.Common.{◌≡◌, ℕ, ◌+◌, ◌-◌, ◌<◌, Bool, true, eqb, List, [], ◌∷◌, ◌++◌, map, length, get_or, drop, is_some, sym, refl, ap, ◌∙◌, inl, inr, zero-add, arith}
+use Rattle.std.proofs.Common.{◌≡◌, ℕ, ◌+◌, ◌-◌, ◌<◌, true, eqb, [], ◌∷◌, ◌++◌, map, length, get_or, is_some, sym, refl, ap, ◌∙◌, inl, inr, zero-add, arith}
 use lib.ListN.{length-map, get_or-map}
 use Rattle.std.proofs.lemmas.List.FromFn.{length-range_with_len, get_or-range_with_len}
 use Rattle.std.proofs.ByRecursion.{All-get_or}
 use Rattle.std.proofs.lemmas.Bool.{cases_eq, or_left, or_right, eq-eqb, lt-ltb, ltb-true, true≢false}
-use Rattle.std.specs.List.{AllByRecursion}
 use Rattle.refusal.specs.declared.Refusal.TheVariants as refusal
 use Rattle.rule.specs.declared.rule.Rule.{Rule}
 use Rattle.sample.specs.Coming.{Coming}
 use Rattle.scale.specs.Laws.{Ops, Laws}
 use Rattle.world.proofs.Holding.{held_on}
 use Rattle.world.proofs.Keep.{Kept, rising_more}
-use Rattle.world.proofs.Moves.{Fails, none_such, unlike, not_source, refuses, accepts, holds_all}
+use Rattle.world.proofs.Moves.{Fails, none_has, fails_at, refuses, unrefused}
 use Rattle.world.proofs.Settling.{Done, done, drawn_total, totals}
 use Rattle.world.proofs.Start.{holds, after_join}
 use Rattle.world.specs.Law.{world, Reads, settled_count, SettledBy, Besides}
@@ -21,31 +20,19 @@ use Rattle.world.specs.World.{Sizes, World, unused}
 use Rattle.world.specs.declared.answer.Answer.TheVariants as answer
 use Rattle.world.specs.declared.answer.Drawn.{Drawn}
 use Rattle.world.specs.declared.call.Call.{Call}
-use Rattle.world.specs.declared.call.Call.TheVariants.{Arm, Draw, Look, Alarm, Take, Pull}
+use Rattle.world.specs.declared.call.Call.TheVariants.{Arm, Draw, Take, Pull}
 use Rattle.world.specs.declared.reading.Reading.{Reading}
-use Rattle.world.specs.declared.refused.Refused.{Refused}
-
-abbrev memory : Refused
-memory = watch_refuses refusal.Memory
 
 -- an armed watch has memory that fits
 abbrev pub Fitting : {V : Type 0} → Sizes → World V → Type 0
 Fitting s w = is_some w.armed ≡ true → fits_armed w.armed s ≡ true
 
 module _ {V : Type 0} (ops : Ops V) (read : ℕ → ℕ → V) (s : Sizes) where
-  -- so no test fails with memory, where only the second has it
-  none_memory : (w : World V) (ts : List (Bool × Refused)) → Fitting s w → AllByRecursion (λ t. t.1 ≡ memory → ⊥) ts → Fails ((is_some w.armed, watch_refuses refusal.Idle) ∷ (fits_armed w.armed s, memory) ∷ ts) memory → ⊥
-  none_memory w ts fit h (inl x) = unlike refusal.Idle refusal.Memory refl x.1
-  none_memory w ts fit h (inr (t, inl x)) = true≢false (sym (fit t) ∙ x.0)
-  none_memory w ts fit h (inr (t, inr (u, x))) = none_such ts memory h x
-
-  only_arm : (c : Call) (w : World V) → Fitting s w → Fails (tests c (facts_in ops read s c w)) memory → (rule : Rule) × (c ≡ Arm rule)
+  -- and memory is the refusal of the second test alone
+  only_arm : (c : Call) (w : World V) → Fitting s w → Fails (tests c (facts_in ops read s c w)) (watch_refuses refusal.Memory) → (rule : Rule) × (c ≡ Arm rule)
   only_arm (Arm rule) w fit f = (rule, refl)
-  only_arm Draw w fit f = absurd (none_memory w (drop 2 (tests Draw (facts_in ops read s Draw w))) fit (unlike refusal.Full refusal.Memory refl, (not_source w.coming refusal.Memory, (unlike refusal.Backward refusal.Memory refl, tt))) f)
-  only_arm (Look p) w fit f = absurd (none_memory w (drop 2 (tests (Look p) (facts_in ops read s (Look p) w))) fit (unlike refusal.Unseen refusal.Memory refl, (unlike refusal.Gone refusal.Memory refl, tt)) f)
-  only_arm Alarm w fit f = absurd (none_memory w (drop 2 (tests Alarm (facts_in ops read s Alarm w))) fit tt f)
-  only_arm Take w fit f = absurd (none_memory w (drop 2 (tests Take (facts_in ops read s Take w))) fit (unlike refusal.Bare refusal.Memory refl, (unlike refusal.Open refusal.Memory refl, (unlike refusal.TrayFull refusal.Memory refl, (unlike refusal.Backward refusal.Memory refl, tt)))) f)
-  only_arm Pull w fit f = absurd (none_such (tests Pull (facts_in ops read s Pull w)) memory (unlike refusal.TrayEmpty refusal.Memory refl, tt) f)
+  only_arm Pull w fit f = absurd (none_has refusal.Memory (tests Pull (facts_in ops read s Pull w)) refl f)
+  only_arm c w fit f = let m = fails_at refusal.Memory 1 (tests c (facts_in ops read s c w)) refl f in absurd (true≢false (sym (fit m.0) ∙ m.1))
 
 module _ {V : Type 0} (ops : Ops V) (read : ℕ → ℕ → V) (s : Sizes) (source : Coming) where
   pub fitting : (w : World V) → Kept ops read s source w → Fitting s w
@@ -78,13 +65,9 @@ module _ {V : Type 0} (ops : Ops V) (read : ℕ → ℕ → V) (s : Sizes) (sour
 
   -- so take does not fail as backward
   not_backward : (w : World V) → Kept ops read s source w → Fails (tests Take (facts_in ops read s Take w)) (watch_refuses refusal.Backward) → ⊥
-  not_backward w K (inl x) = unlike _ _ refl x.1
-  not_backward w K (inr (t₁, inl x)) = unlike _ _ refl x.1
-  not_backward w K (inr (t₁, inr (t₂, inl x))) = unlike _ _ refl x.1
-  not_backward w K (inr (t₁, inr (t₂, inr (t₃, inl x)))) = unlike _ _ refl x.1
-  not_backward w K (inr (t₁, inr (t₂, inr (t₃, inr (t₄, inl x))))) = unlike _ _ refl x.1
-  not_backward w K (inr (t₁, inr (t₂, inr (t₃, inr (t₄, inr (t₅, inl x)))))) = true≢false (sym (take_later w K (ltb-true _ _ t₃)) ∙ x.0)
-  not_backward w K (inr (t₁, inr (t₂, inr (t₃, inr (t₄, inr (t₅, inr x)))))) = x.1
+  not_backward w K f =
+      let b = fails_at refusal.Backward 5 (tests Take (facts_in ops read s Take w)) refl f in
+      true≢false (sym (take_later w K (ltb-true _ _ b.1.1.0)) ∙ b.1.1.1.1.1)
 
 module _ {V : Type 0} {ops : Ops V} (laws : Laws ops) (read : ℕ → ℕ → V) (s : Sizes) (source : Coming) where
   settled_by : SettledBy ops read s source
@@ -92,13 +75,12 @@ module _ {V : Type 0} {ops : Ops V} (laws : Laws ops) (read : ℕ → ℕ → V)
   settled_by cs d e =
       let w = world ops read s source cs in
       let K = holds laws read s source cs in
-      let h = holds_all ops read s Draw w (λ why f. let z : ◌≡◌ {A = ℕ} 0 1 = cc in omega arith) in
-      let a = accepts ops read s Draw w h in
-      let same : answered ops read Draw w ≡ answer.Drew d = sym (ap (λ x. x.1) a) ∙ e in
+      let a = unrefused ops read s Draw w (λ why f. cc) in
+      let same : answered ops read Draw w ≡ answer.Drew d = sym (ap (λ x. x.1) a.1) ∙ e in
       let says : ◌≡◌ {A = Drawn} (record { position = accepted w; settled = newly ops read w (next_sample w) }) d = cc in
       let done-so : Done ops read w = done laws read s source cs _ (holds laws read s source []) (λ j l. absurd (omega arith)) in
-      ap (settled_count ops read) (after_join ops read s cs (Draw ∷ []) _ ∙ ap (λ x. x.0) a)
-      ∙ drawn_total laws read w (next_sample w) (rising_more w.capture (next_sample w) K.up h.1.1.1.1.0) K.few done-so
+      ap (settled_count ops read) (after_join ops read s cs (Draw ∷ []) _ ∙ ap (λ x. x.0) a.1)
+      ∙ drawn_total laws read w (next_sample w) (rising_more w.capture (next_sample w) K.up a.0.1.1.1.1.0) K.few done-so
       ∙ ap (λ x. settled_count ops read w + x.settled) says
 
   pub besides : Besides ops read s source
@@ -113,6 +95,6 @@ module _ {V : Type 0} {ops : Ops V} (laws : Laws ops) (read : ℕ → ℕ → V)
         last_held = λ cs i j h l r. held_on (rule_in (W cs)) (W cs).capture (W cs).taken i j (K cs).up h l r;
         room = λ cs. (K cs).room;
         tray_room = λ cs. (K cs).tray_room;
-        fits_on = λ cs c e. only_arm ops read s c (W cs) (fitting ops read s source (W cs) (K cs)) (refuses ops read s c (W cs) memory e).1;
+        fits_on = λ cs c e. only_arm ops read s c (W cs) (fitting ops read s source (W cs) (K cs)) (refuses ops read s c (W cs) _ e).1;
         later_on = λ cs e. not_backward ops read s source (W cs) (K cs) (refuses ops read s Take (W cs) _ e).1;
       }

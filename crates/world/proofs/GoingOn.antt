@@ -1,5 +1,5 @@
 -- Nothing waits longer than the wait, and a full watch can be freed. Assumes nothing.
-use Rattle.std.proofs.Common.{◌≡◌, ℕ, suc, ◌+◌, ◌<◌, ◌≤◌, List, [], ◌∷◌, ◌++◌, length, drop, is_some, Some, sym, refl, ap, ◌∙◌, subst, inl, inr, arith}
+use Rattle.std.proofs.Common.{◌≡◌, ℕ, suc, ◌+◌, ◌<◌, ◌≤◌, List, [], ◌∷◌, ◌++◌, length, is_some, Some, sym, refl, ap, ◌∙◌, subst, inl, inr, arith}
 use Rattle.std.proofs.lemmas.Bool.{eqb-true, lt-ltb, not-false, cases_lt, true≢false}
 use Rattle.logic.specs.Formula.{span, wait}
 use Rattle.logic.specs.Trace.{trace, newest}
@@ -9,7 +9,7 @@ use Rattle.scale.specs.Laws.{Ops, Laws}
 use Rattle.world.proofs.Besides.{fitting, take_later}
 use Rattle.world.proofs.Holding.{spread_out, one_fewer}
 use Rattle.world.proofs.Keep.{Kept}
-use Rattle.world.proofs.Moves.{none_such, unlike, not_source, refuses, accepts, is_armed, Move, stays, arms, draws_one, takes_one, pulls_one, moves}
+use Rattle.world.proofs.Moves.{fails_at, refuses, accepts, is_armed, Move, stays, arms, draws_one, takes_one, pulls_one, moves}
 use Rattle.world.proofs.Settling.{over}
 use Rattle.world.proofs.Start.{holds, after_join}
 use Rattle.world.specs.Law.{world, takes, Prompt, FullSettled, FullTakes, FullFrees, GoingOn}
@@ -39,18 +39,16 @@ module _ {V : Type 0} where
 module _ {V : Type 0} (ops : Ops V) (read : ℕ → ℕ → V) (s : Sizes) where
   -- a watch that refuses a draw as full is full
   pub full : (w : World V) → (step ops read s Draw w).1 ≡ answer.Refused (watch_refuses refusal.Full) → Full w
-  full w e = elim (refuses ops read s Draw w _ e).1 [
-    | inl x ↦ absurd (unlike _ _ refl x.1)
-    | inr (t₁, inl x) ↦ absurd (unlike _ _ refl x.1)
-    | inr (t₁, inr (t₂, inl x)) ↦ (let b = is_armed w t₁ in (b.0, b.1, eqb-true (held_count w) (places_in w) (not-false _ x.0)))
-    | inr (t₁, inr (t₂, inr (t₃, x))) ↦ absurd (none_such (drop 3 (tests Draw (facts_in ops read s Draw w))) _ (not_source w.coming refusal.Full, (unlike refusal.Backward refusal.Full refl, tt)) x)
-  ]
+  full w e =
+      let f = fails_at refusal.Full 2 (tests Draw (facts_in ops read s Draw w)) refl (refuses ops read s Draw w _ e).1 in
+      let b = is_armed w f.0 in
+      (b.0, b.1, eqb-true (held_count w) (places_in w) (not-false _ f.1.1))
 
   -- without a take, a full watch stays as it is
   frozen_move : (w : World V) {w' : World V} {a : Answer V} → Full w → Move ops read s w w' a → (xs : List (Answer V)) → takes (a ∷ xs) ≡ 0 → Full w' × Same w w' w.taken × (takes xs ≡ 0)
   unfolding takes
   frozen_move w F (stays q) xs e = (F, record { armed_is = refl; capture_is = refl; taken_is = refl }, sym (q.no_take xs) ∙ e)
-  frozen_move w F (arms rule f g) xs e = let h = F.1 in let z : ◌≡◌ {A = ℕ} 0 1 = cc in absurd (omega arith)
+  frozen_move w F (arms rule f g) xs e = let h = F.1 in absurd cc
   frozen_move w F (draws_one b f g r t) xs e = absurd (g F.2)
   frozen_move w F (takes_one b f l t g) xs e = absurd (omega arith)
   frozen_move w F (pulls_one f) xs e = (F, record { armed_is = refl; capture_is = refl; taken_is = refl }, e)
@@ -65,11 +63,9 @@ module _ {V : Type 0} (ops : Ops V) (read : ℕ → ℕ → V) (s : Sizes) where
 
   took_move : (w : World V) (p : ℕ) {w' : World V} {a : Answer V} → Move ops read s w w' a → a ≡ answer.Took p → Same w w' (suc w.taken)
   unfolding takes
-  took_move w p (stays q) e = let z : ◌≡◌ {A = ℕ} 1 0 = sym (ap (λ x. takes (x ∷ [])) e) ∙ q.no_take [] in absurd (omega arith)
-  took_move w p (arms rule f g) e = let z : ◌≡◌ {A = ℕ} 0 1 = cc in absurd (omega arith)
-  took_move w p (draws_one b f g r t) e = let z : ◌≡◌ {A = ℕ} 0 1 = cc in absurd (omega arith)
+  took_move w p (stays q) e = absurd (cc (q.no_take []))
   took_move w p (takes_one b f l t g) e = record { armed_is = refl; capture_is = refl; taken_is = refl }
-  took_move w p (pulls_one f) e = let z : ◌≡◌ {A = ℕ} 0 1 = cc in absurd (omega arith)
+  took_move w p _ e = absurd cc
 
   pub took_one : (w : World V) (p : ℕ) → (step ops read s Take w).1 ≡ answer.Took p → Same w (after ops read s (Take ∷ []) w) (suc w.taken)
   unfolding after
@@ -80,7 +76,7 @@ module _ {V : Type 0} (ops : Ops V) (read : ℕ → ℕ → V) (s : Sizes) (sour
   pub crowded : (w : World V) → Kept ops read s source w → Full w → Crowded w
   crowded w K F =
       let room : span (rule_in w) < places_in w = elim K.standing [
-        | inl x ↦ (let f = F.1 in let z : ◌≡◌ {A = ℕ} 0 1 = cc in absurd (omega arith))
+        | inl x ↦ (let f = F.1 in absurd cc)
         | inr x ↦ x.spacious
       ] in
       let full = F.2 in

@@ -126,7 +126,7 @@ module _ {V : Type 0} {ops : Ops V} (laws : Laws ops) (read : ℕ → ℕ → V)
       let x = next_sample w in
       let up = rising_more w.capture x K.up t in
       record {
-        standing = elim K.standing [ inl y ↦ (let z : ◌≡◌ {A = ℕ} 0 1 = cc in absurd (omega arith)) | inr y ↦ inr y ];
+        standing = elim K.standing [ inl y ↦ (absurd cc) | inr y ↦ inr y ];
         whole = append_assoc w.capture (x ∷ []) (rest w.coming).samples ∙ ap (λ y. w.capture ++ y) (sym r) ∙ K.whole;
         ends_as = K.ends_as;
         up = up;
@@ -175,10 +175,8 @@ module _ {V : Type 0} (ops : Ops V) (read : ℕ → ℕ → V) (s : Sizes) where
   drawn_move : (w : World V) {w' : World V} {a : Answer V} → Move ops read s w w' a → (xs : List (Answer V)) → accepted w' + draws xs ≡ accepted w + draws (a ∷ xs)
   unfolding draws
   drawn_move w (stays q) xs = let n = q.no_draw xs in omega arith
-  drawn_move w (arms rule e f) xs = refl
   drawn_move w (draws_one b e f r t) xs = let n = length-append w.capture (next_sample w ∷ []) in omega arith
-  drawn_move w (takes_one b e l t f) xs = refl
-  drawn_move w (pulls_one e) xs = refl
+  drawn_move w _ xs = refl
 
   -- one sample for each draw that was answered
   pub drawn : (cs : List Call) (w : World V) → accepted (after ops read s cs w) ≡ accepted w + draws (answers ops read s cs w)
@@ -189,10 +187,8 @@ module _ {V : Type 0} (ops : Ops V) (read : ℕ → ℕ → V) (s : Sizes) where
   taken_move : (w : World V) {w' : World V} {a : Answer V} → Move ops read s w w' a → (xs : List (Answer V)) → w'.taken + takes xs ≡ w.taken + takes (a ∷ xs)
   unfolding takes
   taken_move w (stays q) xs = let n = q.no_take xs in omega arith
-  taken_move w (arms rule e f) xs = refl
-  taken_move w (draws_one b e f r t) xs = refl
   taken_move w (takes_one b e l t f) xs = omega arith
-  taken_move w (pulls_one e) xs = refl
+  taken_move w _ xs = refl
 
   -- one position for each take that was answered
   pub taken : (cs : List Call) (w : World V) → (after ops read s cs w).taken ≡ w.taken + takes (answers ops read s cs w)
@@ -202,10 +198,8 @@ module _ {V : Type 0} (ops : Ops V) (read : ℕ → ℕ → V) (s : Sizes) where
 
   peeked_move : (w : World V) {w' : World V} {a : Answer V} → Move ops read s w w' a → w'.capture ≡ w.capture ++ if_drew a (next_sample w)
   peeked_move w (stays q) = sym (ap (λ x. w.capture ++ x) (q.no_peek (next_sample w)) ∙ append-nil w.capture)
-  peeked_move w (arms rule e f) = sym (append-nil w.capture)
   peeked_move w (draws_one b e f r t) = refl
-  peeked_move w (takes_one b e l t f) = sym (append-nil w.capture)
-  peeked_move w (pulls_one e) = sym (append-nil w.capture)
+  peeked_move w _ = sym (append-nil w.capture)
 
   -- the capture grows by what peek answered
   pub captured : (cs : List Call) (w : World V) → (after ops read s cs w).capture ≡ w.capture ++ peeked ops read s cs w
@@ -219,10 +213,8 @@ module _ {V : Type 0} (ops : Ops V) (read : ℕ → ℕ → V) (s : Sizes) where
   pulled_move : (w : World V) {w' : World V} {a : Answer V} → Move ops read s w w' a → (xs : List (Answer V)) → w'.pulled ++ pulls xs ≡ w.pulled ++ pulls (a ∷ xs)
   unfolding pulls
   pulled_move w (stays q) xs = ap (λ x. w.pulled ++ x) (sym (q.no_pull xs))
-  pulled_move w (arms rule e f) xs = refl
-  pulled_move w (draws_one b e f r t) xs = refl
-  pulled_move w (takes_one b e l t f) xs = refl
   pulled_move w (pulls_one e) xs = append_assoc w.pulled (oldest ops read w ∷ []) (pulls xs)
+  pulled_move w _ xs = refl
 
   -- the readings that were pulled are those that pulls answered
   pub pulled : (cs : List Call) (w : World V) → (after ops read s cs w).pulled ≡ w.pulled ++ pulls (answers ops read s cs w)

@@ -28,7 +28,7 @@ module _ {V : Type 0} (ops : Ops V) (read : ℕ → ℕ → V) (s : Sizes) where
 
   pub looked : (w : World V) (p : ℕ) (low high : V) → (step ops read s (Look p) w).1 ≡ Showed (record { low = low; high = high }) → Looked w p low high
   looked w p low high = by_ways ops read s (Look p) w (λ x. x.1 ≡ Showed (record { low = low; high = high }) → Looked w p low high) (record {
-    refusing = λ why r f. let z : ◌≡◌ {A = ℕ} 0 1 = cc in absurd (omega arith);
+    refusing = λ why r f. absurd cc;
     accepting = λ t f.
         let b = is_armed w t.0 in
         let e : ◌≡◌ {A = Shown V} (record { low = (shown ops read (rule_in w) w.capture p).low; high = (shown ops read (rule_in w) w.capture p).high }) (record { low = low; high = high }) = cc in
@@ -40,7 +40,7 @@ module _ {V : Type 0} (ops : Ops V) (read : ℕ → ℕ → V) (s : Sizes) where
   looks w p b e f h = ap (λ x. x.1) (accepts ops read s (Look p) w (ap is_some e, (f, (lt-ltb p (accepted w) (held_is (rule_in w) w.capture w.taken p h).0, (h, tt)))))
 
   named : (w : World V) (p t : ℕ) (o : Option ℕ) → ◌≡◌ {A = Answer V} (Alarmed (with_stamp ops read w.capture o)) (Alarmed (Some (p, t))) → (o ≡ Some p) × (t ≡ stamp_at w.capture p)
-  named w p t None e = let z : ◌≡◌ {A = ℕ} 0 1 = cc in absurd (omega arith)
+  named w p t None e = absurd cc
   named w p t (Some q) e =
       let x : ◌≡◌ {A = ℕ × ℕ} (q, stamp_at w.capture q) (p, t) = cc in
       let y : q ≡ p = ap (λ z. z.0) x in
@@ -56,7 +56,7 @@ module _ {V : Type 0} (ops : Ops V) (read : ℕ → ℕ → V) (s : Sizes) where
 
   pub alarm_says : (w : World V) (p t : ℕ) → w.taken ≤ accepted w → (step ops read s Alarm w).1 ≡ Alarmed (Some (p, t)) → Named w p t
   alarm_says w p t k = by_ways ops read s Alarm w (λ x. x.1 ≡ Alarmed (Some (p, t)) → Named w p t) (record {
-    refusing = λ why r f. let z : ◌≡◌ {A = ℕ} 0 1 = cc in absurd (omega arith);
+    refusing = λ why r f. absurd cc;
     accepting = λ h f.
         let n = named w p t (alarming ops read w) f in
         let r = lowest_is ops read (trace w.capture) (rule_in w) w.taken (accepted w - w.taken) p n.0 in
@@ -65,12 +65,12 @@ module _ {V : Type 0} (ops : Ops V) (read : ℕ → ℕ → V) (s : Sizes) where
 
   none_named : (w : World V) (o : Option ℕ) → ◌≡◌ {A = Answer V} (Alarmed (with_stamp ops read w.capture o)) (Alarmed None) → o ≡ None
   none_named w None e = refl
-  none_named w (Some q) e = let z : ◌≡◌ {A = ℕ} 0 1 = cc in absurd (omega arith)
+  none_named w (Some q) e = absurd cc
 
   -- where alarm names none, no untaken position fails
   pub no_alarm : (w : World V) → (step ops read s Alarm w).1 ≡ Alarmed None → (p : ℕ) → w.taken ≤ p → p < accepted w → high_passes ops read w p ≡ true
   no_alarm w e p a b = by_ways ops read s Alarm w (λ x. x.1 ≡ Alarmed None → high_passes ops read w p ≡ true) (record {
-    refusing = λ why r f. let z : ◌≡◌ {A = ℕ} 0 1 = cc in absurd (omega arith);
+    refusing = λ why r f. absurd cc;
     accepting = λ h f. not-false _ (lowest_none ops read (trace w.capture) (rule_in w) w.taken (accepted w - w.taken) (none_named w (alarming ops read w) f) p a (omega arith));
   }) e
 

@@ -12,7 +12,7 @@ use Rattle.sample.specs.Coming.{Coming}
 use Rattle.sample.specs.declared.row.SampleRow.{SampleRow}
 use Rattle.scale.specs.Laws.{Ops, Laws}
 use Rattle.world.proofs.Keep.{Kept, kept_by_move, rising_more}
-use Rattle.world.proofs.Moves.{Move, stays, arms, draws_one, takes_one, pulls_one, moves}
+use Rattle.world.proofs.Moves.{Move, stays, arms, draws_one, takes_one, moves}
 use Rattle.world.proofs.Tallies.{many_split, many_below}
 use Rattle.world.specs.Law.{counted, settled_count}
 use Rattle.world.specs.Steps.{rule_in, accepted, many, next_sample, settled, newly, after, answers}
@@ -52,7 +52,7 @@ module _ {V : Type 0} {ops : Ops V} (laws : Laws ops) (read : ℕ → ℕ → V)
               let here = still (rule_in w) w.capture (x ∷ []) j up y z in
               inl (rw (lt-ltb j n y, z) refl, and_right (leb w.taken j) _ (and_right (p j) _ (rw (lt-ltb j n y, z) refl)), here))
           | inr z ↦ elim (cases_lt j w.taken) [
-            | inl t ↦ (let o : ◌≡◌ {A = ℕ} 0 1 = cc (done j t, z) in absurd (omega arith))
+            | inl t ↦ absurd (cc (done j t, z))
             | inr t ↦ inr (rw (lt-ltb j n y, z) refl, rw (le-leb w.taken j t, lt-ltb j n y, z) (and-true (p j)))
           ]
         ]
@@ -67,14 +67,13 @@ module _ {V : Type 0} {ops : Ops V} (laws : Laws ops) (read : ℕ → ℕ → V)
 
   -- a call leaves what was taken settled
   pub done_move : (w : World V) → Kept ops read s source w → Done ops read w → {w' : World V} {a : Answer V} → Move ops read s w w' a → Done ops read w'
-  done_move w K done (stays q) = done
   done_move w K done (arms rule e f) = λ j x. let k = K.few in let z = fresh rule w f in absurd (omega arith)
   done_move w K done (draws_one b e f r t) = λ j x. let k = K.few in still laws read (rule_in w) w.capture (next_sample w ∷ []) j (rising_more w.capture (next_sample w) K.up t) (omega arith) (done j x)
   done_move w K done (takes_one b e l t f) = λ j x. elim (cases_lt j w.taken) [
     | inl y ↦ done j y
     | inr y ↦ (let z : w.taken ≡ j = omega arith in rw z at t)
   ]
-  done_move w K done (pulls_one e) = done
+  done_move w K done _ = done
 
   pub done : (cs : List Call) (w : World V) → Kept ops read s source w → Done ops read w → Done ops read (after ops read s cs w)
   unfolding after
@@ -88,8 +87,7 @@ module _ {V : Type 0} {ops : Ops V} (laws : Laws ops) (read : ℕ → ℕ → V)
   total_move w K done (draws_one b e f r t) xs =
       let d = drawn_total laws read w (next_sample w) (rising_more w.capture (next_sample w) K.up t) K.few done in
       omega arith
-  total_move w K done (takes_one b e l t f) xs = refl
-  total_move w K done (pulls_one e) xs = refl
+  total_move w K done _ xs = refl
 
   pub totals : (cs : List Call) (w : World V) → Kept ops read s source w → Done ops read w → settled_count ops read (after ops read s cs w) ≡ settled_count ops read w + counted (answers ops read s cs w)
   unfolding after answers counted

@@ -5,9 +5,9 @@ use Rattle.sample.specs.declared.row.SampleRow.{SampleRow}
 use Rattle.scale.specs.Laws.{Ops, Laws}
 use Rattle.world.proofs.Holding.{held_none}
 use Rattle.world.proofs.Keep.{Kept, kept}
-use Rattle.world.proofs.Moves.{Move, stays, arms, draws_one, takes_one, pulls_one, moves}
+use Rattle.world.proofs.Moves.{Move, arms, draws_one, moves}
 use Rattle.world.specs.Law.{world}
-use Rattle.world.specs.Steps.{next_sample, step, after, answers}
+use Rattle.world.specs.Steps.{next_sample, step, after}
 use Rattle.world.specs.World.{Sizes, Armed, World, unused}
 use Rattle.world.specs.declared.answer.Answer.{Answer}
 use Rattle.world.specs.declared.call.Call.{Call}
@@ -23,17 +23,10 @@ module _ {V : Type 0} (ops : Ops V) (read : ℕ → ℕ → V) (s : Sizes) where
   after_join [] ds w = refl
   after_join (c ∷ cs) ds w = after_join cs ds (step ops read s c w).0
 
-  pub answers_join : (cs ds : List Call) (w : World V) → answers ops read s (cs ++ ds) w ≡ answers ops read s cs w ++ answers ops read s ds (after ops read s cs w)
-  unfolding after answers
-  answers_join [] ds w = refl
-  answers_join (c ∷ cs) ds w = ap (λ xs. (step ops read s c w).1 ∷ xs) (answers_join cs ds (step ops read s c w).0)
-
   grown_move : (b : Armed) (w : World V) {w' : World V} {a : Answer V} → w.armed ≡ Some b → Move ops read s w w' a → Grown b w w'
-  grown_move b w e (stays q) = (e, ([], sym (append-nil w.capture)))
-  grown_move b w e (arms rule f g) = let z : ◌≡◌ {A = ℕ} 0 1 = cc in absurd (omega arith)
+  grown_move b w e (arms rule f g) = absurd cc
   grown_move b w e (draws_one b' f g r t) = (e, (next_sample w ∷ [], refl))
-  grown_move b w e (takes_one b' f l t g) = (e, ([], sym (append-nil w.capture)))
-  grown_move b w e (pulls_one f) = (e, ([], sym (append-nil w.capture)))
+  grown_move b w e _ = (e, ([], sym (append-nil w.capture)))
 
   pub grown : (b : Armed) (ds : List Call) (w : World V) → w.armed ≡ Some b → Grown b w (after ops read s ds w)
   unfolding after

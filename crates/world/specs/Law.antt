@@ -15,7 +15,7 @@ use Rattle.world.specs.Steps.{rule_in, places_in, next_sample, many, accepted, h
 use Rattle.world.specs.Tests.{watch_refuses}
 use Rattle.world.specs.World.{Sizes, World, unused}
 use Rattle.world.specs.declared.answer.Answer.{Answer}
-use Rattle.world.specs.declared.answer.Answer.TheVariants.{Armed, Drew, Showed, Alarmed, Took, Pulled, Refused}
+use Rattle.world.specs.declared.answer.Answer.TheVariants.{Drew, Showed, Alarmed, Took, Pulled, Refused}
 use Rattle.world.specs.declared.answer.Drawn.{Drawn}
 use Rattle.world.specs.declared.call.Call.{Call}
 use Rattle.world.specs.declared.call.Call.TheVariants.{Arm, Draw, Look, Alarm, Take, Pull}
@@ -31,56 +31,31 @@ module _ {V : Type 0} where
   -- how many draws were accepted, by the answers
   unfoldable pub draws : List (Answer V) → ℕ
   draws [] = 0
-  draws (Armed ∷ xs) = draws xs
   draws (Drew d ∷ xs) = suc (draws xs)
-  draws (Showed e ∷ xs) = draws xs
-  draws (Alarmed o ∷ xs) = draws xs
-  draws (Took p ∷ xs) = draws xs
-  draws (Pulled r ∷ xs) = draws xs
-  draws (Refused why ∷ xs) = draws xs
+  draws (_ ∷ xs) = draws xs
 
   -- how many takes
   unfoldable pub takes : List (Answer V) → ℕ
   takes [] = 0
-  takes (Armed ∷ xs) = takes xs
-  takes (Drew d ∷ xs) = takes xs
-  takes (Showed e ∷ xs) = takes xs
-  takes (Alarmed o ∷ xs) = takes xs
   takes (Took p ∷ xs) = suc (takes xs)
-  takes (Pulled r ∷ xs) = takes xs
-  takes (Refused why ∷ xs) = takes xs
+  takes (_ ∷ xs) = takes xs
 
   -- the sum of the counts that the accepted draws answered
   unfoldable pub counted : List (Answer V) → ℕ
   counted [] = 0
-  counted (Armed ∷ xs) = counted xs
   counted (Drew d ∷ xs) = d.settled + counted xs
-  counted (Showed e ∷ xs) = counted xs
-  counted (Alarmed o ∷ xs) = counted xs
-  counted (Took p ∷ xs) = counted xs
-  counted (Pulled r ∷ xs) = counted xs
-  counted (Refused why ∷ xs) = counted xs
+  counted (_ ∷ xs) = counted xs
 
   -- the readings that the accepted pulls answered
   unfoldable pub pulls : List (Answer V) → List (Reading V)
   pulls [] = []
-  pulls (Armed ∷ xs) = pulls xs
-  pulls (Drew d ∷ xs) = pulls xs
-  pulls (Showed e ∷ xs) = pulls xs
-  pulls (Alarmed o ∷ xs) = pulls xs
-  pulls (Took p ∷ xs) = pulls xs
   pulls (Pulled r ∷ xs) = r ∷ pulls xs
-  pulls (Refused why ∷ xs) = pulls xs
+  pulls (_ ∷ xs) = pulls xs
 
   -- the sample, if the answer says that a draw was accepted
   abbrev pub if_drew : Answer V → SampleRow → List SampleRow
-  if_drew Armed s = []
   if_drew (Drew d) s = s ∷ []
-  if_drew (Showed e) s = []
-  if_drew (Alarmed o) s = []
-  if_drew (Took p) s = []
-  if_drew (Pulled r) s = []
-  if_drew (Refused why) s = []
+  if_drew _ s = []
 
   -- the positions that no take answered
   abbrev pub untaken : World V → List ℕ

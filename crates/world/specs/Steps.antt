@@ -75,20 +75,12 @@ module _ {V : Type 0} where
   -- the memory fits: for arm another question than for the other calls, for which the strip has counted what was accepted
   abbrev pub fits_in : Sizes → Call → World V → Bool
   fits_in s (Arm rule) w = arm_fits rule s (accepted w)
-  fits_in s Draw w = fits_armed w.armed s
-  fits_in s (Look p) w = fits_armed w.armed s
-  fits_in s Alarm w = fits_armed w.armed s
-  fits_in s Take w = fits_armed w.armed s
-  fits_in s Pull w = fits_armed w.armed s
+  fits_in s _ w = fits_armed w.armed s
 
 -- the position that a call speaks of
 abbrev pub position_of : Call → ℕ
-position_of (Arm rule) = 0
-position_of Draw = 0
 position_of (Look p) = p
-position_of Alarm = 0
-position_of Take = 0
-position_of Pull = 0
+position_of _ = 0
 
 module _ {V : Type 0} (ops : Ops V) (read : ℕ → ℕ → V) where
   -- the two ends of a formula at position j of a capture, and whether they are the same
@@ -147,40 +139,12 @@ module _ {V : Type 0} (ops : Ops V) (read : ℕ → ℕ → V) where
 
   -- what an accepted call changes
   abbrev pub changed : Sizes → Call → World V → World V
-  changed s (Arm rule) w = record {
-    armed = Some (record { rule = rule; places = s.places });
-    capture = w.capture;
-    taken = w.taken;
-    pulled = w.pulled;
-    tray = w.tray;
-    coming = w.coming;
-  }
-  changed s Draw w = record {
-    armed = w.armed;
-    capture = w.capture ++ next_sample w ∷ [];
-    taken = w.taken;
-    pulled = w.pulled;
-    tray = w.tray;
-    coming = rest w.coming;
-  }
+  changed s (Arm rule) w = record w { armed = Some (record { rule = rule; places = s.places }) }
+  changed s Draw w = record w { capture = w.capture ++ next_sample w ∷ []; coming = rest w.coming }
   changed s (Look p) w = w
   changed s Alarm w = w
-  changed s Take w = record {
-    armed = w.armed;
-    capture = w.capture;
-    taken = suc w.taken;
-    pulled = w.pulled;
-    tray = w.tray ++ reading_in w ∷ [];
-    coming = w.coming;
-  }
-  changed s Pull w = record {
-    armed = w.armed;
-    capture = w.capture;
-    taken = w.taken;
-    pulled = w.pulled ++ oldest w ∷ [];
-    tray = elim w.tray [ [] ↦ [] | r ∷ rs ↦ rs ];
-    coming = w.coming;
-  }
+  changed s Take w = record w { taken = suc w.taken; tray = w.tray ++ reading_in w ∷ [] }
+  changed s Pull w = record w { pulled = w.pulled ++ oldest w ∷ []; tray = elim w.tray [ [] ↦ [] | r ∷ rs ↦ rs ] }
 
   -- a refusal changes nothing
   abbrev pub outcome : Sizes → Call → World V → Option Refused → World V × Answer V

@@ -9,6 +9,7 @@ use Rattle.rule.specs.Tables.{formula}
 use Rattle.rule.specs.declared.rule.Rule.{Rule}
 use Rattle.sample.specs.Coming.{Coming}
 use Rattle.sample.specs.Endings.{refusal_of}
+use Rattle.sample.specs.declared.ending.Ending.{Ending}
 use Rattle.world.specs.Limits.{most_places}
 use Rattle.world.specs.World.{Sizes}
 use Rattle.world.specs.declared.call.Call.{Call}
@@ -35,8 +36,11 @@ abbrev pub watch_refuses : Refusal → Refused
 watch_refuses why = record { by = by.Watch; refusal = why }
 
 -- a source's ending refuses a draw
+abbrev pub ending_refuses : Ending → Refused
+ending_refuses ending = record { by = by.Source; refusal = refusal_of ending }
+
 abbrev pub source_refuses : Coming → Refused
-source_refuses coming = record { by = by.Source; refusal = refusal_of coming.ending }
+source_refuses coming = ending_refuses coming.ending
 
 -- what must hold, with the refusal where it does not
 abbrev pub tests : Call → Facts → List (Bool × Refused)

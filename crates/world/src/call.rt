@@ -1,7 +1,7 @@
 use rule::Rule;
 
-/// A call on a watch.
-#[derive(Clone, Copy)]
+/// A call on a watch. It has no `==`, since a rule has none.
+#[derive(Clone, Copy, Debug)]
 pub enum Call {
     /// Give the watch its rule.
     Arm(Rule),

@@ -1,13 +1,8 @@
-use Rattle.std.proofs.Common.{ap, ◌∙◌, rules}
-use Rattle.strip.specs.Ring.{contents, ring_of}
+use Rattle.strip.specs.Ring.{ring_of}
 use Rattle.strip.proofs.Contents.{contents_keep}
 use Rattle.strip.proofs.strip.Strip.keep_newest.Goals as goal
 
-pub returns : goal.returns
-returns g c =
+pub returns-clause-listed : goal.returns-clause-listed
+returns-clause-listed g c =
     let self = c.args.self.now in
-    record {
-      same = search rules;
-      moved = search rules;
-      listed = ap contents c.lower.ensures.moved ∙ contents_keep (ring_of self) self.fits self.some c.args.count;
-    }
+    rw c.min-self.ensures (contents_keep (ring_of self) self.fits self.some c.args.count)

@@ -1,17 +1,17 @@
-use Rattle.std.proofs.Common.{◌≡◌, ◌<◌, ◌∷◌, get_or, sym, ap, ◌∙◌, rules}
-use Rattle.strip.specs.Ring.{contents, oldest, place_of, ring_of, without_oldest}
-use Rattle.strip.proofs.Contents.{contents_remove}
+use Rattle.std.proofs.Common.{◌≡◌, ◌<◌, [], get_or, rules}
+use Rattle.strip.specs.Ring.{contents, oldest, place_of, ring_of}
+use Rattle.strip.proofs.Contents.{contents_none, contents_remove}
 use Rattle.strip.proofs.strip.Strip.remove.Goals as goal
 
-pub returns-in-Some : goal.returns-in-Some
-returns-in-Some g c =
+pub returns-in_err-row-clause-listed : goal.returns-in_err-row-clause-listed
+returns-in_err-row-clause-listed g c =
+    let none : c.args.self.now.kept ≡ 0 = search rules in
+    let e : contents (ring_of c.args.self.now) ≡ [] = contents_none (ring_of c.args.self.now) none in
+    search rules
+
+pub returns-clause-listed : goal.returns-clause-listed
+returns-clause-listed g c =
     let self = c.args.self.now in
-    let moved : ring_of c.lower.new.self ≡ without_oldest (ring_of self) = search rules in
     let some : 0 < self.kept = search rules in
-    let is : c.in-Some.row ≡ get_or self.rows.now (place_of (ring_of self) (oldest (ring_of self))) c.in-Some.row = search rules in
-    record {
-      same = search rules;
-      answer = (some, is);
-      moved = moved;
-      listed = contents_remove (ring_of self) some self.fits self.some c.in-Some.row is ∙ ap (λ s. c.in-Some.row ∷ contents s) (sym moved);
-    }
+    let is : c.in_ok-row.row ≡ get_or self.rows.now (place_of (ring_of self) (oldest (ring_of self))) c.in_ok-row.row = search rules in
+    contents_remove (ring_of self) some self.fits self.some c.in_ok-row.row is
