@@ -1,5 +1,5 @@
 -- Memory that a watch was armed with, and memory not used yet, stand for what the model says. Assumes nothing.
-use Rattle.std.proofs.Common.{◌≡◌, ℕ, ◌≤◌, true, ◌++◌, length, take, drop, None, sym, refl, ap, ◌∙◌, arith}
+use Rattle.std.proofs.Common.{◌≡◌, ℕ, ◌≤◌, true, ◌++◌, take, drop, None, sym, refl, ap, ◌∙◌, arith}
 use Rattle.scale.specs.Laws.{Ops}
 use Rattle.rule.specs.declared.rule.Rule.{Rule}
 use Rattle.strip.specs.Ring.{contents, place_of, oldest}
@@ -12,7 +12,6 @@ use Rattle.world.specs.declared.call.Call.TheVariants.{Arm}
 use Rattle.watch.specs.Calls.{Arms}
 use Rattle.watch.specs.Memory.{Memory, facts_of, sizes}
 use Rattle.watch.specs.Stands.{Stands, Unused}
-use Rattle.watch.proofs.Found.{armed_from}
 use Rattle.watch.proofs.Passed.{arm_passed}
 
 module _ {V : Type 0} (ops : Ops V) (read : ℕ → ℕ → V) where
@@ -26,12 +25,12 @@ module _ {V : Type 0} (ops : Ops V) (read : ℕ → ℕ → V) where
   pub arm_stands : (rule : Rule) (m m' : Memory V) (a : Answer V) → call_refusal (Arm rule) (facts_of ops (Arm rule) m) ≡ None → Arms rule m m' a → (w : World V) → Stands ops read w m → (a ≡ answered ops read (Arm rule) w) × Stands ops read (changed ops read (sizes m) (Arm rule) w) m'
   arm_stands rule m m' a e does w s =
       let t = arm_passed ops m rule e in
-      let none : accepted w ≡ 0 = sym s.strip_taken ∙ t.1 in
+      let none : accepted w ≡ 0 = sym s.strip_taken ∙ t in
       let w' = changed ops read (sizes m) (Arm rule) w in
       let count : held_count w ≡ held_count w' = no_count w none ∙ sym (no_count w' none) in (
         does.says,
         record {
-          armed_is = armed_from m'.watch true rule (length m.strip.rows) does.armed_now does.rule_is does.places_are;
+          armed_is = does.armed_is;
           accepted_is = does.accepted_stays ∙ s.accepted_is;
           taken_is = does.taken_stays ∙ s.taken_is;
           held_is = does.held_stays ∙ s.held_is ∙ count;

@@ -1,8 +1,9 @@
 -- An accepted draw follows the model. Assumes nothing.
-use Rattle.std.proofs.Common.{◌≡◌, ℕ, suc, ◌+◌, ◌-◌, ◌%◌, ◌<◌, ◌≤◌, min, true, false, not, ◌&&◌, ltb, leb, ◌⊎◌, List, [], ◌∷◌, ◌++◌, length, get_or, set, None, sym, ap, ◌∙◌, subst, ap₂, inl, inr, ⊎_elim, arith, length-append}
+use Rattle.std.proofs.Common.{◌≡◌, ℕ, suc, ◌+◌, ◌-◌, ◌%◌, ◌<◌, ◌≤◌, min, true, false, not, ◌&&◌, ltb, leb, List, [], ◌∷◌, ◌++◌, length, get_or, set, Some, None, sym, ap, ◌∙◌, subst, ap₂, ⊎_elim, arith, length-append}
 use lib.ListN.{get_or-append}
+use Rattle.std.specs.Option.{option_map}
 use Rattle.std.proofs.lemmas.List.{get_or_push}
-use Rattle.std.proofs.lemmas.Bool.{cases_Bool, cases_lt, leb-true, true≢false}
+use Rattle.std.proofs.lemmas.Bool.{cases_lt, leb-true}
 use Rattle.scale.specs.Laws.{Ops, Laws}
 use Rattle.logic.specs.Formula.{span}
 use Rattle.logic.specs.Trace.{blank, trace, newest, Rising}
@@ -22,9 +23,10 @@ use Rattle.world.proofs.Holding.{held_is, is_held, stamp_old}
 use Rattle.world.proofs.Keep.{rising_more}
 use Rattle.watch.specs.Calls.{Draws}
 use Rattle.watch.specs.Cells.{FirstLater}
-use Rattle.watch.specs.Memory.{Memory, facts_of, sizes, last_node, oldest_held}
+use Rattle.watch.specs.Memory.{Memory, facts_of, sizes, last_armed, last_node, oldest_held, stored}
+use Rattle.watch.specs.declared.armed.Arming.{Arming}
 use Rattle.watch.specs.Refreshed.{Refreshed}
-use Rattle.watch.specs.Stands.{Stands, last_armed}
+use Rattle.watch.specs.Stands.{Stands}
 use Rattle.watch.proofs.Agree.{sample_later}
 use Rattle.watch.proofs.Found.{same_armed, armed_with, from_oldest, below_oldest, cell_is}
 use Rattle.watch.proofs.Fresh.{Put, mirrored, row_there, fresh}
@@ -32,7 +34,7 @@ use Rattle.watch.proofs.LetGo.{let_go}
 use Rattle.watch.proofs.Newly.{counted_newly}
 use Rattle.watch.proofs.Passed.{DrawPassed, draw_passed}
 
-module _ {V : Type 0} {ops : Ops V} (laws : Laws ops) (read : ℕ → ℕ → V) (m m' : Memory V) (w : World V) (s : Stands ops read w m) (t : DrawPassed ops m) (a : Answer V) (does : Draws m m' a) (within : m.strip.kept ≤ length m.strip.rows) (fit : Fits (get_or m.coming.samples 0 blank)) where
+module _ {V : Type 0} {ops : Ops V} (laws : Laws ops) (read : ℕ → ℕ → V) (m m' : Memory V) (w : World V) (s : Stands ops read w m) (t : DrawPassed ops m) (arming : Arming) (armed : m.watch.arming ≡ Some arming) (a : Answer V) (does : Draws m m' a) (within : m.strip.kept ≤ length m.strip.rows) (fit : Fits (get_or m.coming.samples 0 blank)) where
   abbrev σ : List SampleRow
   σ = w.capture
 
@@ -42,38 +44,29 @@ module _ {V : Type 0} {ops : Ops V} (laws : Laws ops) (read : ℕ → ℕ → V)
   next_is : get_or m.coming.samples 0 blank ≡ next_sample w
   next_is = ap (λ (c : Coming). get_or c.samples 0 blank) s.coming_is
 
-  formula_is : rule_in w ≡ rule_formula m.watch.rule
-  formula_is = ap formula_armed (armed_with w m s t.ready.armed_is)
+  formula_is : rule_in w ≡ rule_formula arming.rule
+  formula_is = ap formula_armed (armed_with w m s arming armed)
 
   places_are : places_in w ≡ length m.strip.rows
-  places_are = ap places_armed (armed_with w m s t.ready.armed_is) ∙ sym t.ready.long
+  places_are = sym (t.ready.long ∙ ap places_armed s.armed_is)
 
-  node_is : last_armed w.armed ≡ last_node m.watch.rule
-  node_is = ap last_armed (armed_with w m s t.ready.armed_is)
+  node_is : last_armed w.armed ≡ last_node arming.rule
+  node_is = ap last_armed (armed_with w m s arming armed)
 
   size : length (w.capture ++ next_sample w ∷ []) ≡ length w.capture + 1
   size = length-append w.capture (next_sample w ∷ [])
 
   free : m.strip.kept < length m.strip.rows
-  free = let k = t.ready.kept_same in let l = t.ready.long in by_cases (cases_lt m.strip.kept (length m.strip.rows))
-    where
-      by_cases : (m.strip.kept < length m.strip.rows) ⊎ (length m.strip.rows ≤ m.strip.kept) → m.strip.kept < length m.strip.rows
-      by_cases (inl y) = y
-      by_cases (inr y) = let k = t.ready.kept_same in let l = t.ready.long in absurd (t.not_full (omega arith))
+  free = let k = t.ready.kept_same in let l = t.ready.long in omega (arith, t.not_full)
 
   up : Rising (trace (w.capture ++ next_sample w ∷ []))
   up = rising_more w.capture (next_sample w) s.rises (sample_later laws read w m s ∙ t.strip_later)
 
   -- a position below the oldest held has a stamp at least the span before the newest
   far : (q : ℕ) → q < oldest_held m.watch → stamp_at w.capture q + span (rule_in w) ≤ newest (trace w.capture)
-  far q l = ⊎_elim
-      (λ (y : newest (trace w.capture) < stamp_at w.capture q + span (rule_in w)).
-      let n = s.accepted_is in
-      absurd (true≢false (sym (is_held (rule_in w) w.capture w.taken q (omega arith) (inr y)) ∙ below_oldest w m s q l)))
-      (λ (y : stamp_at w.capture q + span (rule_in w) ≤ newest (trace w.capture)). y)
-      (cases_lt (newest (trace w.capture)) (stamp_at w.capture q + span (rule_in w)))
+  far q l = let n = s.accepted_is in let past = m.watch.past in grind (arith, is_held (rule_in w) w.capture w.taken q, below_oldest w m s q l)
 
-  put : Put ops read m.watch.rule w.capture (next_sample w) m.strip.rows m'.strip.rows m.cells (oldest_held m.watch) m.strip.last
+  put : Put ops read arming.rule w.capture (next_sample w) m.strip.rows m'.strip.rows m.cells (oldest_held m.watch) m.strip.last
   put =
       let n = s.accepted_is in
       let past = m.watch.past in
@@ -97,8 +90,8 @@ module _ {V : Type 0} {ops : Ops V} (laws : Laws ops) (read : ℕ → ℕ → V)
         last_is = s.strip_last;
         gone = λ q l. subst (λ A. stamp_at w.capture q + span A ≤ newest (trace w.capture)) formula_is (far q l);
         showed = λ p b c.
-            ap (λ C. cell_at m.cells C (last_node m.watch.rule) p) t.ready.long
-            ∙ cell_is w m s t.ready.armed_is p (from_oldest w m s p b (omega arith))
+            ap₂ (λ C n. cell_at m.cells C n p) t.ready.long (sym (ap (λ o. last_armed (option_map stored o)) armed))
+            ∙ cell_is w m s p (from_oldest w m s p b (omega arith))
             ∙ ap (λ A. kept_ends ops (shown ops read A w.capture p)) formula_is;
       }
 
@@ -111,22 +104,18 @@ module _ {V : Type 0} {ops : Ops V} (laws : Laws ops) (read : ℕ → ℕ → V)
 
   -- what was not held is not held any more
   stays_gone : (q : ℕ) → q < oldest_held m.watch → held_of (rule_in w) (w.capture ++ next_sample w ∷ []) w.taken q ≡ false
-  stays_gone q l = ⊎_elim
-      (λ (h : held_of (rule_in w) (w.capture ++ next_sample w ∷ []) w.taken q ≡ true).
+  stays_gone q l =
       let n = s.accepted_is in
+      let past = m.watch.past in
       let z = size in
       let e = stamp_old w.capture (next_sample w ∷ []) q (omega arith) in
       let v = stamp_old w.capture (next_sample w ∷ []) (length w.capture - 1) (omega arith) in
       let u = rising (trace (w.capture ++ next_sample w ∷ [])) up (length w.capture - 1) (length (w.capture ++ next_sample w ∷ []) - 1) (omega arith) (omega arith) in
-      absurd (true≢false (sym (is_held (rule_in w) w.capture w.taken q (omega arith) (⊎_elim (λ (y : w.taken ≤ q). inl y) (λ (y : newest (trace (w.capture ++ next_sample w ∷ [])) < stamp_at (w.capture ++ next_sample w ∷ []) q + span (rule_in w)). inr (omega arith)) (held_is (rule_in w) (w.capture ++ next_sample w ∷ []) w.taken q h).1)) ∙ below_oldest w m s q l)))
-      (λ (h : held_of (rule_in w) (w.capture ++ next_sample w ∷ []) w.taken q ≡ false). h)
-      (cases_Bool (held_of (rule_in w) (w.capture ++ next_sample w ∷ []) w.taken q))
+      grind (arith, is_held (rule_in w) w.capture w.taken q, below_oldest w m s q l, held_is (rule_in w) (w.capture ++ next_sample w ∷ []) w.taken q)
 
   lets_go : FirstLater m'.strip.rows (oldest_held m.watch) w.taken (newest (trace (w.capture ++ next_sample w ∷ []))) (span (rule_in w)) (oldest_held m'.watch)
   lets_go =
-      subst (λ A. FirstLater m'.strip.rows (oldest_held m.watch) w.taken (newest (trace (w.capture ++ next_sample w ∷ []))) (span A) (oldest_held m'.watch)) (sym formula_is)
-      (subst (λ k. FirstLater m'.strip.rows (oldest_held m.watch) w.taken k (span (rule_formula m.watch.rule)) (oldest_held m'.watch)) (sym newest_is)
-      (subst (λ k. FirstLater m'.strip.rows (oldest_held m.watch) k m'.strip.last (span (rule_formula m.watch.rule)) (oldest_held m'.watch)) s.taken_is does.lets_go))
+      subst (λ f. f) (λ i. FirstLater m'.strip.rows (oldest_held m.watch) (s.taken_is i) (sym newest_is i) (span (formula_armed (s.armed_is i))) (oldest_held m'.watch)) does.lets_go
 
   let_go_now :
       ((q : ℕ) → q < length (w.capture ++ next_sample w ∷ []) → held_of (rule_in w) (w.capture ++ next_sample w ∷ []) w.taken q ≡ leb (oldest_held m'.watch) q)
@@ -140,11 +129,11 @@ module _ {V : Type 0} {ops : Ops V} (laws : Laws ops) (read : ℕ → ℕ → V)
       (omega arith)
       lets_go
 
-  module _ (fresh-Cells : Refreshed ops read m.watch.rule m'.strip.rows (oldest_held m.watch) m.watch.accepted m.watch.taken m.strip.last m.cells m'.cells does.count) where
-    refreshed : Refreshed ops read m.watch.rule m'.strip.rows (oldest_held m.watch) (length w.capture) w.taken m.strip.last m.cells m'.cells does.count
+  module _ (fresh-Cells : Refreshed ops read arming.rule m'.strip.rows (oldest_held m.watch) m.watch.accepted m.watch.taken m.strip.last m.cells m'.cells does.count) where
+    refreshed : Refreshed ops read arming.rule m'.strip.rows (oldest_held m.watch) (length w.capture) w.taken m.strip.last m.cells m'.cells does.count
     refreshed =
-        subst (λ n. Refreshed ops read m.watch.rule m'.strip.rows (oldest_held m.watch) n w.taken m.strip.last m.cells m'.cells does.count) s.accepted_is
-        (subst (λ n. Refreshed ops read m.watch.rule m'.strip.rows (oldest_held m.watch) m.watch.accepted n m.strip.last m.cells m'.cells does.count) s.taken_is fresh-Cells)
+        subst (λ n. Refreshed ops read arming.rule m'.strip.rows (oldest_held m.watch) n w.taken m.strip.last m.cells m'.cells does.count) s.accepted_is
+        (subst (λ n. Refreshed ops read arming.rule m'.strip.rows (oldest_held m.watch) m.watch.accepted n m.strip.last m.cells m'.cells does.count) s.taken_is fresh-Cells)
 
     count_is : does.count ≡ newly ops read w (next_sample w)
     count_is =
@@ -206,8 +195,10 @@ module _ {V : Type 0} {ops : Ops V} (laws : Laws ops) (read : ℕ → ℕ → V)
       (does : Draws m m' a) →
       m.strip.kept ≤ length m.strip.rows →
       Fits (get_or m.coming.samples 0 blank) →
-      Refreshed ops read m.watch.rule m'.strip.rows (oldest_held m.watch) m.watch.accepted m.watch.taken m.strip.last m.cells m'.cells does.count →
+      (arming : Arming) →
+      m.watch.arming ≡ Some arming →
+      Refreshed ops read arming.rule m'.strip.rows (oldest_held m.watch) m.watch.accepted m.watch.taken m.strip.last m.cells m'.cells does.count →
       (w : World V) →
       Stands ops read w m →
       (a ≡ answered ops read Draw w) × Stands ops read (changed ops read (sizes m) Draw w) m'
-  draw_stands m m' a e does within fit anew w s = draw_now laws read m m' w s (draw_passed ops m e) a does within fit anew
+  draw_stands m m' a e does within fit arming armed anew w s = draw_now laws read m m' w s (draw_passed ops m e) arming armed a does within fit anew

@@ -3,6 +3,7 @@ use Rattle.std.proofs.Common.{◌≡◌, ℕ, ◌+◌, ◌-◌, ◌%◌, ◌<◌
 use lib.ListN.{get_or-append}
 use Rattle.std.proofs.lemmas.List.{get_or-set_same, get_or-set_other, get_or_push}
 use Rattle.std.proofs.lemmas.Bool.{cases_lt}
+use Rattle.std.proofs.lemmas.Grind.{common_steps}
 use Rattle.scale.specs.Laws.{Ops, Laws}
 use Rattle.logic.specs.Formula.{Formula, wait, reach, span}
 use Rattle.logic.specs.Trace.{blank, trace, newest, Rising}
@@ -54,20 +55,10 @@ module _ {V : Type 0} {ops : Ops V} {read : ℕ → ℕ → V} {rule : Rule} {σ
   -- the rows have the longer capture
   pub mirrored : (p : ℕ) → low ≤ p → p < length (σ ++ s ∷ []) → get_or rows' (p % length rows) blank ≡ get_or (σ ++ s ∷ []) p blank
   mirrored p a b =
-      ap (λ r. get_or r (p % length rows) blank) P.put
-      ∙ ⊎_elim
-      (λ (c : p < length σ).
-      let room = P.room in
-      get_or-set_other rows (length σ % length rows) (p % length rows) s blank (apart (length rows) p (length σ) c (omega arith))
-      ∙ P.mirror p a c
-      ∙ sym (get_or-append σ (s ∷ []) blank p c))
-      (λ (c : length σ ≤ p).
       let n = size in
-      let e : p ≡ length σ = omega arith in
-      ap (λ k. get_or (set rows (length σ % length rows) s) (k % length rows) blank) e
-      ∙ get_or-set_same rows (length σ % length rows) s blank (mod-lt (length σ) P.some)
-      ∙ sym (get_or_push σ s blank p (sym e)))
-      (cases_lt p (length σ))
+      let room = P.room in
+      let m = mod-lt (length σ) P.some in
+      rw P.put (grind (arith, common_steps, P.mirror p a, get_or-append σ (s ∷ []) blank p, get_or_push σ s blank p, apart (length rows) p (length σ), get_or-set_other rows (length σ % length rows) (p % length rows) s blank, get_or-set_same rows (length σ % length rows) s blank m))
 
   pub row_there : (p : ℕ) → low ≤ p → p < length (σ ++ s ∷ []) → row_at rows' p ≡ get_or (σ ++ s ∷ []) p blank
   row_there p a b =
@@ -107,17 +98,10 @@ module _ {V : Type 0} {ops : Ops V} {read : ℕ → ℕ → V} {rule : Rule} {σ
     -- before the window every stamp is at least the span before the newest
     far : (q : ℕ) → q < R.first → stamp_at (σ ++ s ∷ []) q + span (rule_formula rule) ≤ newest (trace σ)
     far q l =
+        let n = size in
         let to = R.window.to in
         let x = stamp_old σ (s ∷ []) q (omega arith) in
-        ⊎_elim
-        (λ (c : q < low). let y = P.gone q c in omega arith)
-        (λ (c : low ≤ q).
-        let n = size in
-        let y = R.window.past q c l in
-        let z = stamp_there q c (omega arith) in
-        let t = P.last_is (omega arith) in
-        omega arith)
-        (cases_lt q low)
+        grind (arith, P.gone q, R.window.past q, stamp_there q, P.last_is)
 
     -- before the first position that is computed anew the wait was over
     pub waited : (p : ℕ) → low ≤ p → p < R.from → stamp_at σ p + wait (rule_formula rule) ≤ newest (trace σ)
@@ -126,11 +110,7 @@ module _ {V : Type 0} {ops : Ops V} {read : ℕ → ℕ → V} {rule : Rule} {σ
         let to = R.waiting.to in
         let x = stamp_old σ (s ∷ []) p (omega arith) in
         let z = stamp_there p a (omega arith) in
-        let t = P.last_is (omega arith) in
-        ⊎_elim
-        (λ (c : p < R.first). let y = R.window.past p a c in omega arith)
-        (λ (c : R.first ≤ p). let y = R.waiting.past p c l in omega arith)
-        (cases_lt p R.first)
+        grind (arith, R.window.past p a, R.waiting.past p, P.last_is)
 
     -- from there on the newest stamp was less than the wait later
     late : (p : ℕ) → R.from ≤ p → p < length (σ ++ s ∷ []) → 0 < length σ → newest (trace σ) < stamp_at (σ ++ s ∷ []) p + wait (rule_formula rule)
@@ -140,17 +120,8 @@ module _ {V : Type 0} {ops : Ops V} {read : ℕ → ℕ → V} {rule : Rule} {σ
         let w₂ = R.waiting.from in
         let w₃ = R.waiting.to in
         let t = P.last_is some in
-        ⊎_elim
-        (λ (c : R.from < length σ).
-        let x = R.waiting.next c in
-        let y = stamp_there R.from (omega arith) (omega arith) in
-        let z = rising (trace (σ ++ s ∷ [])) P.up R.from p a b in
-        omega arith)
-        (λ (c : length σ ≤ R.from).
         let x = stamp_old σ (s ∷ []) (length σ - 1) (omega arith) in
-        let y = P.up (length σ - 1) p (omega arith) b in
-        omega arith)
-        (cases_lt R.from (length σ))
+        grind (arith, R.waiting.next, stamp_there R.from, rising (trace (σ ++ s ∷ [])) P.up R.from p a b, P.up (length σ - 1) p)
 
     stays : (p : ℕ) → low ≤ p → p < R.from → cell_at cells' (length rows) (last_node rule) p ≡ cell_at cells (length rows) (last_node rule) p
     stays p a l =

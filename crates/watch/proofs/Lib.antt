@@ -1,5 +1,5 @@
 pub mod Counting
-pub mod Places
+pub mod LastCells
 pub mod Readiness
 pub mod Pushing
 pub mod Accepts

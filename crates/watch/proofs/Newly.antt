@@ -1,6 +1,6 @@
 -- How many untaken positions a sample settles. Assumes nothing.
-use Rattle.std.proofs.Common.{◌≡◌, ℕ, zero, suc, ◌+◌, ◌-◌, ◌<◌, ◌≤◌, max, Bool, true, false, cond, not, ◌&&◌, ltb, leb, ◌⊎◌, List, [], ◌∷◌, ◌++◌, length, sym, refl, ap, ◌∙◌, ap₂, inl, inr, ⊎_elim, add-one, arith, length-append}
-use Rattle.std.proofs.lemmas.Bool.{cases_Bool, cases_lt, lt-ltb, le-ltb, le-leb, lt-leb}
+use Rattle.std.proofs.Common.{◌≡◌, ℕ, zero, suc, ◌+◌, ◌-◌, ◌<◌, ◌≤◌, max, Bool, true, false, not, ◌&&◌, ltb, leb, ◌⊎◌, List, [], ◌∷◌, ◌++◌, length, sym, refl, ap, ◌∙◌, ap₂, add-one, arith, length-append}
+use Rattle.std.proofs.lemmas.Bool.Decides.{nat_tests}
 use Rattle.scale.specs.Laws.{Ops, Laws}
 use Rattle.logic.specs.Meaning.{Ends}
 use Rattle.rule.specs.declared.rule.Rule.{Rule}
@@ -22,33 +22,13 @@ use Rattle.watch.proofs.Fresh.{Put, as_long, fresh, waited}
 pub many_shift : (p : ℕ → Bool) (f n : ℕ) → many (λ j. leb f j && p j) n ≡ many (λ k. p (f + k)) (n - f)
 unfolding many
 many_shift p f zero = let e : zero - f ≡ 0 = omega arith in rw e refl
-many_shift p f (suc n) = ⊎_elim
-    (λ (l : n < f).
-    let e : suc n - f ≡ n - f = omega arith in
-    ap (λ b. cond (b && p n) (suc (many (λ j. leb f j && p j) n)) (many (λ j. leb f j && p j) n)) (lt-leb f n l)
-    ∙ many_shift p f n
-    ∙ ap (many (λ k. p (f + k))) (sym e))
-    (λ (l : f ≤ n).
-    let e : suc n - f ≡ n + 1 - f = omega arith in
-    ap (λ b. cond (b && p n) (suc (many (λ j. leb f j && p j) n)) (many (λ j. leb f j && p j) n)) (le-leb f n l)
-    ∙ ap (λ k. cond (p n) (suc k) k) (many_shift p f n)
-    ∙ sym (many_more p f n l)
-    ∙ ap (many (λ k. p (f + k))) (sym e))
-    (cases_lt n f)
+many_shift p f (suc n) = grind (arith, nat_tests, many_shift p f n, many_more p f n)
 
-and_swap : (a b c : Bool) → (a && (b && c)) ≡ (b && (a && c))
-and_swap true true c = refl
-and_swap true false c = refl
-and_swap false true c = refl
-and_swap false false c = refl
-
-and_none : (a : Bool) → (a && false) ≡ false
-and_none true = refl
-and_none false = refl
-
-and_all : (a : Bool) → (a && true) ≡ a
-and_all true = refl
-and_all false = refl
+-- a position is settled now: it was before, or it is counted as new
+each : (was is : Bool) (j n taken from : ℕ) → from ≤ n → j < suc n → (taken ≤ j → j < from → was ≡ true) → (j < n → was ≡ true → is ≡ true) →
+    (((leb (max from taken) j && (ltb j n && was)) ≡ true) × ((leb taken j && (is && not (ltb j n && was))) ≡ false) × ((leb (max from taken) j && is) ≡ true))
+    ⊎ (((leb (max from taken) j && (ltb j n && was)) ≡ false) × ((leb taken j && (is && not (ltb j n && was))) ≡ (leb (max from taken) j && is)))
+each was is j n taken from to l done kept = grind (arith, nat_tests)
 
 -- a cell of two ends says whether they are the same
 pub settled_cell : {V : Type 0} {ops : Ops V} → Laws ops → (c : Cell) (e : Ends V) → c ≡ kept_ends ops e → same_ends ops c ≡ ops.same e.low e.high
@@ -77,43 +57,17 @@ module _ {V : Type 0} {ops : Ops V} (laws : Laws ops) (read : ℕ → ℕ → V)
   size : length (σ ++ s ∷ []) ≡ length σ + 1
   size = length-append σ (s ∷ [])
 
-  -- positions that are settled now: those that were, and the new ones
-  each : (j : ℕ) → j < suc (length σ) →
-      (((leb (max R.from taken) j && (ltb j (length σ) && was j)) ≡ true) × (anew j ≡ false) × ((leb (max R.from taken) j && is j) ≡ true))
-      ⊎ (((leb (max R.from taken) j && (ltb j (length σ) && was j)) ≡ false) × (anew j ≡ (leb (max R.from taken) j && is j)))
-  each j l = ⊎_elim
-      (λ (a : j < max R.from taken).
-      inr (
-        rw (lt-leb (max R.from taken) j a) refl,
-        rw (lt-leb (max R.from taken) j a) (⊎_elim
-            (λ (b : j < taken). rw (lt-leb taken j b) refl)
-            (λ (b : taken ≤ j).
-            let to = R.waiting.to in
-            let early : j < R.from = omega arith in
-            let done : was j ≡ true = over laws read (rule_formula rule) σ j (rising_first σ (s ∷ []) P.up) (omega arith) (waited P laws R j (omega arith) early) in
-            let here : ltb j (length σ) ≡ true = lt-ltb j (length σ) (omega arith) in
-            ap (λ x. leb taken j && (is j && not x)) (ap₂ (λ x y. x && y) here done) ∙ ap (λ x. leb taken j && x) (and_none (is j)) ∙ and_none (leb taken j))
-            (cases_lt j taken)),
-      ))
-      (λ (a : max R.from taken ≤ j).
-      let due : leb (max R.from taken) j ≡ true = le-leb (max R.from taken) j a in
-      let left : leb taken j ≡ true = le-leb taken j (omega arith) in
-      ⊎_elim
-      (λ (e : (ltb j (length σ) && was j) ≡ true).
-      let below : j < length σ = ⊎_elim (λ (x : j < length σ). x) (λ (x : length σ ≤ j). let z : false ≡ true = ap (λ b. b && was j) (sym (le-ltb j (length σ) x)) ∙ e in let y : ◌≡◌ {A = ℕ} 0 1 = cc in absurd (let u : ⊥ = omega arith in u)) (cases_lt j (length σ)) in
-      let before : was j ≡ true = sym (ap (λ b. b && was j) (lt-ltb j (length σ) below)) ∙ e in
-      let now : is j ≡ true = still laws read (rule_formula rule) σ (s ∷ []) j P.up below before in
-      inl (ap₂ (λ x y. x && y) due e, ap (λ x. leb taken j && (is j && not x)) e ∙ ap (λ x. leb taken j && x) (and_none (is j)) ∙ and_none (leb taken j), ap₂ (λ x y. x && y) due now))
-      (λ (e : (ltb j (length σ) && was j) ≡ false).
-      inr (ap (λ x. leb (max R.from taken) j && x) e ∙ and_none (leb (max R.from taken) j), ap (λ x. leb taken j && (is j && not x)) e ∙ ap (λ x. leb taken j && x) (and_all (is j)) ∙ ap (λ x. x && is j) (left ∙ sym due)))
-      (cases_Bool (ltb j (length σ) && was j)))
-      (cases_lt j (max R.from taken))
+  over_before : (j : ℕ) → taken ≤ j → j < R.from → was j ≡ true
+  over_before j a b =
+      let n = size in
+      let to = R.waiting.to in
+      over laws read (rule_formula rule) σ j (rising_first σ (s ∷ []) P.up) (omega arith) (waited P laws R j (omega arith) b)
 
   total : many (λ j. leb (max R.from taken) j && is j) (suc (length σ)) ≡ many (λ j. leb (max R.from taken) j && was j) (length σ) + many anew (suc (length σ))
   total =
-      many_split (λ j. leb (max R.from taken) j && is j) (λ j. leb (max R.from taken) j && (ltb j (length σ) && was j)) anew (suc (length σ)) each
+      many_split (λ j. leb (max R.from taken) j && is j) (λ j. leb (max R.from taken) j && (ltb j (length σ) && was j)) anew (suc (length σ)) (λ j l. each (was j) (is j) j (length σ) taken R.from R.waiting.to l (over_before j) (λ a b. still laws read (rule_formula rule) σ (s ∷ []) j P.up a b))
       ∙ ap (λ k. k + many anew (suc (length σ)))
-      (many_same (λ j. leb (max R.from taken) j && (ltb j (length σ) && was j)) (λ j. ltb j (length σ) && (leb (max R.from taken) j && was j)) (suc (length σ)) (λ j l. and_swap (leb (max R.from taken) j) (ltb j (length σ)) (was j))
+      (many_same (λ j. leb (max R.from taken) j && (ltb j (length σ) && was j)) (λ j. ltb j (length σ) && (leb (max R.from taken) j && was j)) (suc (length σ)) (λ j l. grind arith)
       ∙ many_below (λ j. leb (max R.from taken) j && was j) (length σ))
 
   settled_after : settled_among ops rule (length rows') cells' (max R.from taken) (length σ + 1 - max R.from taken) ≡ many (λ j. leb (max R.from taken) j && is j) (suc (length σ))

@@ -3,6 +3,7 @@ use Rattle.std.proofs.Common.{◌≡◌, ℕ, suc, ◌+◌, ◌-◌, ◌%◌, �
 use Rattle.std.proofs.ByRecursion.{All-push}
 use Rattle.std.proofs.lemmas.List.{append_assoc, get_or_push, length-map, length_push, map_push}
 use Rattle.std.proofs.lemmas.Bool.{cases_Bool, both_ways}
+use Rattle.std.proofs.lemmas.Bool.Decides.{nat_tests}
 use Rattle.scale.specs.Laws.{Ops, Laws}
 use Rattle.logic.specs.Formula.{Formula, span}
 use Rattle.logic.specs.Trace.{blank, trace, newest}
@@ -10,9 +11,8 @@ use Rattle.sample.specs.Limits.{stamp_limit}
 use Rattle.sample.specs.declared.row.SampleRow.{SampleRow}
 use Rattle.strip.specs.declared.reading.ReadingRow.{ReadingRow}
 use Rattle.evaluation.specs.Memory.{row_at, cell_at}
-use Rattle.world.proofs.Holding.{held_is, is_held}
 use Rattle.world.specs.Steps.{accepted, answered, changed, formula_armed, held, held_count, held_of, places_in, reading_in, rule_in, shown, stamp_at}
-use Rattle.world.specs.Tests.{call_refusal, rule_formula}
+use Rattle.world.specs.Tests.{call_refusal}
 use Rattle.world.specs.World.{World}
 use Rattle.world.specs.declared.answer.Answer.{Answer}
 use Rattle.world.specs.declared.answer.Answer.TheVariants as answer
@@ -20,17 +20,16 @@ use Rattle.world.specs.declared.call.Call.TheVariants.{Take}
 use Rattle.world.specs.declared.reading.Reading.{Reading}
 use Rattle.watch.specs.Calls.{Takes, taken_row}
 use Rattle.watch.specs.Cells.{FirstLater}
-use Rattle.watch.specs.Memory.{Memory, facts_of, last_cell, oldest_held, row_of, sizes}
-use Rattle.watch.specs.Stands.{Stands, last_armed}
-use Rattle.watch.proofs.Found.{armed_with, below_oldest, cell_is, from_oldest, same_armed, row_is, untaken_held}
+use Rattle.watch.specs.Memory.{Memory, facts_of, formula_of, last_armed, last_cell, oldest_held, row_of, sizes}
+use Rattle.watch.specs.Stands.{Stands}
+use Rattle.watch.proofs.Found.{below_oldest, cell_is, from_oldest, same_armed, row_is, untaken_held}
 use Rattle.watch.proofs.LetGo.{let_go}
 use Rattle.watch.proofs.Passed.{take_passed, TakePassed}
 
 -- what is held with one more taken was held before
 held_before : (A : Formula) (σ : List SampleRow) (k j : ℕ) → held_of A σ (suc k) j ≡ true → held_of A σ k j ≡ true
-held_before A σ k j h =
-    let p = held_is A σ (suc k) j h in
-    is_held A σ k j p.0 (elim p.1 [ inl x ↦ inl (omega arith) | inr x ↦ inr x ])
+unfolding held_of
+held_before A σ k j h = grind (arith, nat_tests)
 
 module _ {V : Type 0} {ops : Ops V} (laws : Laws ops) (read : ℕ → ℕ → V) (m m' : Memory V) (w : World V) (s : Stands ops read w m) (t : TakePassed ops m) where
   abbrev now : World V
@@ -45,23 +44,23 @@ module _ {V : Type 0} {ops : Ops V} (laws : Laws ops) (read : ℕ → ℕ → V)
       let h = untaken_held w m s m.watch.taken (omega arith) t.untaken in
       let low = (shown ops read (rule_in w) w.capture m.watch.taken).low in
       let stamp : (row_at m.strip.rows m.watch.taken).stamp ≡ stamp_at w.capture w.taken =
-      ap (λ (x : SampleRow). x.stamp) (row_is w m s t.ready.armed_is t.ready.long m.watch.taken h) ∙ ap (stamp_at w.capture) s.taken_is in
+      ap (λ (x : SampleRow). x.stamp) (row_is w m s t.ready.long m.watch.taken h) ∙ ap (stamp_at w.capture) s.taken_is in
       let value : ops.restored (last_cell m.watch m.cells m.watch.taken).low ≡ (shown ops read (rule_in w) w.capture w.taken).low =
-      ap (λ c. ops.restored c.low) (cell_is w m s t.ready.armed_is m.watch.taken h) ∙ laws.restores low ∙ ap (λ k. (shown ops read (rule_in w) w.capture k).low) s.taken_is in
+      ap (λ c. ops.restored c.low) (cell_is w m s m.watch.taken h) ∙ laws.restores low ∙ ap (λ k. (shown ops read (rule_in w) w.capture k).low) s.taken_is in
       λ i. record { position = s.taken_is i; stamp = stamp i; value = ops.kept (value i) }
 
   -- the positions that stay are those that the model holds
-  stay : FirstLater m.strip.rows (oldest_held m.watch) (m.watch.taken + 1) m.strip.last (span (rule_formula m.watch.rule)) (oldest_held m'.watch) → held_count now ≡ accepted w - oldest_held m'.watch
+  stay : FirstLater m.strip.rows (oldest_held m.watch) (m.watch.taken + 1) m.strip.last (span (formula_of m.watch)) (oldest_held m'.watch) → held_count now ≡ accepted w - oldest_held m'.watch
   stay first =
       let later : FirstLater m.strip.rows (oldest_held m.watch) (suc w.taken) (newest (trace w.capture)) (span (rule_in w)) (oldest_held m'.watch) =
       let high : m.watch.taken + 1 ≡ suc w.taken = let k = s.taken_is in omega arith in
-      let by : span (rule_formula m.watch.rule) ≡ span (rule_in w) = ap (λ o. span (formula_armed o)) (sym (armed_with w m s t.ready.armed_is)) in
+      let by : span (formula_of m.watch) ≡ span (rule_in w) = ap (λ o. span (formula_armed o)) s.armed_is in
       let since = s.strip_last some_accepted in
       subst (λ f. f) (λ i. FirstLater m.strip.rows (oldest_held m.watch) (high i) (since i) (by i) (oldest_held m'.watch)) first in
       let n = s.accepted_is in
       (let_go (rule_in w) w.capture m.strip.rows (suc w.taken) (oldest_held m.watch) (oldest_held m'.watch) s.rises
       (λ q from below.
-      ap (λ (x : SampleRow). x.stamp) (row_is w m s t.ready.armed_is t.ready.long q (from_oldest w m s q from (omega arith))))
+      ap (λ (x : SampleRow). x.stamp) (row_is w m s t.ready.long q (from_oldest w m s q from (omega arith))))
       (λ q below. elim (cases_Bool (held now q)) [
         | inl h ↦ absurd (both_ways (held w q) (below_oldest w m s q below) (held_before (rule_in w) w.capture w.taken q h))
         | inr h ↦ h

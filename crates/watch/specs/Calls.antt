@@ -1,5 +1,5 @@
 -- What each call promises of memory, whatever lies there. Assumes nothing.
-use Rattle.std.specs.Prelude.{◌≡◌, ℕ, ◌+◌, ◌-◌, ◌≤◌, true, List, [], ◌∷◌, ◌++◌, length, get_or, Some, None, Ok, Err, Option, Result, slice_index_or}
+use Rattle.std.specs.Prelude.{◌≡◌, ℕ, ◌+◌, ◌-◌, ◌≤◌, List, [], ◌∷◌, ◌++◌, length, Some, None, Ok, Err, Option, Result, slice_index_or}
 use Rattle.refusal.specs.declared.Refusal.{Refusal}
 use Rattle.scale.specs.Laws.{Ops}
 use Rattle.logic.specs.Formula.{span}
@@ -10,7 +10,7 @@ use Rattle.sample.specs.declared.row.SampleRow.{SampleRow}
 use Rattle.strip.specs.Ring.{with_row, with_newest, without_oldest, contents}
 use Rattle.strip.specs.declared.reading.ReadingRow.{ReadingRow}
 use Rattle.evaluation.specs.Memory.{row_at}
-use Rattle.world.specs.Tests.{call_refusal, watch_refuses, rule_formula}
+use Rattle.world.specs.Tests.{call_refusal, watch_refuses}
 use Rattle.world.specs.declared.answer.Answer.{Answer}
 use Rattle.world.specs.declared.answer.Answer.TheVariants as answer
 use Rattle.world.specs.declared.answer.Drawn.{Drawn}
@@ -20,7 +20,7 @@ use Rattle.world.specs.declared.call.Call.TheVariants.{Arm, Draw, Look, Alarm, T
 use Rattle.world.specs.declared.reading.Reading.{Reading}
 use Rattle.world.specs.declared.refused.Refused.{Refused}
 use Rattle.watch.specs.Cells.{FirstLater, fails, lowest}
-use Rattle.watch.specs.Memory.{Memory, facts_of, sizes, last_cell, oldest_held, reading_of}
+use Rattle.watch.specs.Memory.{Memory, armed_of, formula_of, facts_of, sizes, last_cell, oldest_held, reading_of}
 use Rattle.watch.specs.Stands.{Follows}
 use Rattle.watch.specs.declared.watch.Watch.{Watch}
 
@@ -51,18 +51,14 @@ module _ {V : Type 0} where
   pull_said (Err why) = answer.Refused (watch_refuses why)
 
 module _ {V : Type 0} where
-  -- the watch's numbers after a call that keeps the rule
-  pub record SameRule (x x' : Watch V) : Type 0 where
-    pub armed_stays : x'.armed ≡ x.armed
-    pub rule_stays : x'.rule ≡ x.rule
-    pub places_stay : x'.places ≡ x.places
+  -- a call keeps what the watch is armed with
+  abbrev pub SameRule : Watch V → Watch V → Type 0
+  SameRule x x' = x'.arming ≡ x.arming
 
   -- an armed watch has the rule and C; its memory stays
   pub record Arms (rule : Rule) (m m' : Memory V) (a : Answer V) : Type 0 where
     pub says : a ≡ answer.Armed
-    pub armed_now : m'.watch.armed ≡ true
-    pub rule_is : m'.watch.rule ≡ rule
-    pub places_are : m'.watch.places ≡ length m.strip.rows
+    pub armed_is : armed_of m'.watch ≡ Some (record { rule = rule; places = length m.strip.rows })
     pub accepted_stays : m'.watch.accepted ≡ m.watch.accepted
     pub taken_stays : m'.watch.taken ≡ m.watch.taken
     pub held_stays : m'.watch.held ≡ m.watch.held
@@ -82,10 +78,10 @@ module _ {V : Type 0} where
     pub accepted_more : m'.watch.accepted ≡ m.watch.accepted + 1
     pub taken_stays : m'.watch.taken ≡ m.watch.taken
     pub lets_go :
-        FirstLater m'.strip.rows (oldest_held m.watch) m.watch.taken m'.strip.last (span (rule_formula m.watch.rule)) (oldest_held m'.watch)
+        FirstLater m'.strip.rows (oldest_held m.watch) m.watch.taken m'.strip.last (span (formula_of m.watch)) (oldest_held m'.watch)
     pub strip_is :
         m'.strip
-        ≡ with_newest (with_row m.strip (get_or m.coming.samples 0 blank).stamp (slice_index_or m.coming.samples 0 blank)) m'.watch.held
+        ≡ with_newest (with_row m.strip (slice_index_or m.coming.samples 0 blank).stamp (slice_index_or m.coming.samples 0 blank)) m'.watch.held
     pub cells_long : length m'.cells ≡ length m.cells
     pub tray_stays : m'.tray ≡ m.tray
     pub coming_is : m'.coming ≡ rest m.coming
@@ -124,7 +120,7 @@ module _ {V : Type 0} (ops : Ops V) where
     pub accepted_stays : m'.watch.accepted ≡ m.watch.accepted
     pub taken_more : m'.watch.taken ≡ m.watch.taken + 1
     pub lets_go :
-        FirstLater m.strip.rows (oldest_held m.watch) (m.watch.taken + 1) m.strip.last (span (rule_formula m.watch.rule)) (oldest_held m'.watch)
+        FirstLater m.strip.rows (oldest_held m.watch) (m.watch.taken + 1) m.strip.last (span (formula_of m.watch)) (oldest_held m'.watch)
     pub strip_is : m'.strip ≡ with_newest m.strip m'.watch.held
     pub cells_stay : m'.cells ≡ m.cells
     pub tray_is : m'.tray ≡ with_row m.tray (taken_row m).stamp (taken_row m)

@@ -1,6 +1,8 @@
 -- What lies in memory, and what the tests of each call find there. Assumes nothing.
-use Rattle.std.specs.Prelude.{ℕ, ◌-◌, min, Bool, cond, ◌&&◌, ◌||◌, List, length, Some, None, Option, ◌==◌, nat_le, nat_lt, slice_index_or}
+use Rattle.std.specs.Prelude.{ℕ, ◌-◌, min, Bool, ◌&&◌, ◌||◌, List, length, is_some, Some, None, Option, ◌==◌, nat_le, nat_lt, slice_index_or}
+use Rattle.std.specs.Option.{option_map}
 use Rattle.scale.specs.Laws.{Ops}
+use Rattle.logic.specs.Formula.{Formula}
 use Rattle.logic.specs.Trace.{blank}
 use Rattle.rule.specs.Made.{nodes_of}
 use Rattle.rule.specs.declared.rule.Rule.{Rule}
@@ -11,13 +13,14 @@ use Rattle.strip.specs.Ring.{Ring}
 use Rattle.strip.specs.declared.reading.ReadingRow.{ReadingRow}
 use Rattle.evaluation.specs.Memory.{row_at, cell_at}
 use Rattle.evaluation.specs.declared.memory.Cell.{Cell}
-use Rattle.world.specs.Steps.{position_of}
-use Rattle.world.specs.Tests.{Facts, arm_fits, still_fits}
+use Rattle.world.specs.Steps.{position_of, formula_armed, places_armed, fits_armed}
+use Rattle.world.specs.Tests.{Facts, arm_fits}
 use Rattle.world.specs.World.{Sizes, Armed}
 use Rattle.world.specs.declared.call.Call.{Call}
 use Rattle.world.specs.declared.call.Call.TheVariants.{Arm, Draw, Look, Alarm, Take, Pull}
 use Rattle.world.specs.declared.reading.Reading.{Reading}
 use Rattle.watch.specs.Cells.{same_ends}
+use Rattle.watch.specs.declared.armed.Arming.{Arming}
 use Rattle.watch.specs.declared.watch.Watch.{Watch}
 
 -- the watch's own numbers, the strip, the cells, the tray, and what the source means
@@ -34,9 +37,23 @@ memory watch strip cells tray coming = record { watch = watch; strip = strip; ce
 abbrev pub last_node : Rule → ℕ
 last_node rule = length (nodes_of rule) - 1
 
+abbrev pub last_armed : Option Armed → ℕ
+last_armed None = 0
+last_armed (Some a) = last_node a.rule
+
+-- what an arming stores
+abbrev pub stored : Arming → Armed
+stored a = record { rule = a.rule; places = a.places }
+
 module _ {V : Type 0} where
   abbrev pub armed_of : Watch V → Option Armed
-  armed_of x = cond x.armed (Some (record { rule = x.rule; places = x.places })) None
+  armed_of x = option_map stored x.arming
+
+  abbrev pub formula_of : Watch V → Formula
+  formula_of x = formula_armed (armed_of x)
+
+  abbrev pub places_of : Watch V → ℕ
+  places_of x = places_armed (armed_of x)
 
   abbrev pub sizes : Memory V → Sizes
   sizes m = record { places = length m.strip.rows; cells = length m.cells; tray_places = length m.tray.rows }
@@ -47,13 +64,13 @@ module _ {V : Type 0} where
 
   -- the last node's cell of a position
   abbrev pub last_cell : Watch V → List Cell → ℕ → Cell
-  last_cell x cells p = cell_at cells x.places (last_node x.rule) p
+  last_cell x cells p = cell_at cells (places_of x) (last_armed (armed_of x)) p
 
   -- strip and cells have the lengths of arming, and the strip has counted as many records, in all and now, as the watch has positions,
   -- accepted and held
   abbrev pub watch_fits : Watch V → Ring SampleRow → ℕ → Bool
   watch_fits x strip cells =
-      still_fits x.rule x.places (record { places = length strip.rows; cells = cells; tray_places = 0 })
+      fits_armed (armed_of x) (record { places = length strip.rows; cells = cells; tray_places = 0 })
       && (strip.taken == x.accepted && strip.kept == x.held)
 
   abbrev pub memory_fits : Call → Memory V → Bool
@@ -71,9 +88,9 @@ takes_later ring stamp = ring.taken == 0 || nat_lt ring.last stamp
 module _ {V : Type 0} (ops : Ops V) where
   abbrev pub facts_of : Call → Memory V → Facts
   facts_of c m = record {
-    armed = m.watch.armed;
+    armed = is_some m.watch.arming;
     fits = memory_fits c m;
-    full = (m.watch.held == m.watch.places);
+    full = (m.watch.held == places_of m.watch);
     coming = m.coming;
     later = takes_later m.strip (slice_index_or m.coming.samples 0 blank).stamp;
     seen = nat_lt (position_of c) m.watch.accepted;

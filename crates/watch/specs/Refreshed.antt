@@ -1,21 +1,23 @@
 -- What the inner steps of draw and take promise. Assumes nothing.
-use Rattle.std.specs.Prelude.{◌≡◌, ℕ, ◌+◌, ◌-◌, ◌<◌, max, true, false, List, length, Ok, nat_eq}
+use Rattle.std.specs.Prelude.{◌≡◌, ℕ, ◌+◌, ◌-◌, ◌<◌, max, Bool, true, cond, nat_lt, List, length, Some, None, Option}
+use Rattle.refusal.specs.declared.Refusal.TheVariants.{Full}
 use Rattle.scale.specs.Laws.{Ops}
 use Rattle.logic.specs.Formula.{wait, span}
 use Rattle.rule.specs.Made.{nodes_of}
 use Rattle.rule.specs.declared.rule.Rule.{Rule}
-use Rattle.sample.specs.Coming.{Coming, first}
+use Rattle.sample.specs.Coming.{Coming}
 use Rattle.sample.specs.declared.row.SampleRow.{SampleRow}
 use Rattle.strip.specs.Ring.{Ring, with_row, with_newest}
 use Rattle.evaluation.specs.Memory.{cell_at}
 use Rattle.evaluation.specs.Nodes.{Evaluated}
 use Rattle.evaluation.specs.declared.memory.Cell.{Cell}
 use Rattle.world.specs.Steps.{many}
-use Rattle.world.specs.Tests.{rule_formula}
+use Rattle.world.specs.Tests.{rule_formula, source_refuses, watch_refuses}
 use Rattle.watch.specs.Cells.{FirstLater, same_ends}
-use Rattle.world.specs.declared.answer.Drawn.{Drawn}
+use Rattle.world.specs.declared.refused.Refused.{Refused}
 use Rattle.watch.specs.Calls.{SameRule}
-use Rattle.watch.specs.Memory.{last_node, last_cell, oldest_held, watch_fits, takes_later}
+use Rattle.watch.specs.Memory.{last_node, last_cell, oldest_held, takes_later}
+use Rattle.watch.specs.declared.armed.Arming.{Arming}
 use Rattle.watch.specs.declared.watch.Watch.{Watch}
 
 -- how many of c positions from j on are settled, by the last node's cells
@@ -33,28 +35,28 @@ pub record Refreshed {V : Type 0} (ops : Ops V) (read : ℕ → ℕ → V) (rule
       ≡ settled_among ops rule (length rows) xs (max from taken) (accepted + 1 - max from taken)
       - settled_among ops rule (length rows) ys (max from taken) (accepted - max from taken)
 
--- nothing but the stamp of the sample with this row can refuse a draw
-pub record Drawable {V : Type 0} (x : Watch V) (strip : Ring SampleRow) (cells : ℕ) (coming : Coming) (row : SampleRow) : Type 0 where
-  pub armed : x.armed ≡ true
-  pub fits : watch_fits x strip cells ≡ true
-  pub room : nat_eq x.held x.places ≡ false
-  pub next : first coming ≡ Ok row
+-- why no sample comes into a watch, full or not, if none does
+abbrev pub sample_refusal : Bool → Coming → Option Refused
+sample_refusal full coming =
+    cond full (Some (watch_refuses Full))
+    (cond (nat_lt 0 (length coming.samples)) None (Some (source_refuses coming)))
 
--- a sample with this row was accepted
-pub record Accepting {V : Type 0} (ops : Ops V) (read : ℕ → ℕ → V) (x x' : Watch V) (strip strip' : Ring SampleRow) (cells cells' : List Cell) (row : SampleRow) (drawn : Drawn) : Type 0 where
+-- a sample with this row was taken in, and the rule evaluated anew
+pub record Accepting {V : Type 0} (ops : Ops V) (read : ℕ → ℕ → V) (x : Watch V) (arming : Arming) (strip strip' : Ring SampleRow) (cells cells' : List Cell) (row : SampleRow) (settled : ℕ) : Type 0 where
   pub later : takes_later strip row.stamp ≡ true
-  pub position_is : drawn.position ≡ x.accepted
-  pub same_rule : SameRule x x'
-  pub accepted_more : x'.accepted ≡ x.accepted + 1
-  pub taken_stays : x'.taken ≡ x.taken
-  pub lets_go : FirstLater strip'.rows (oldest_held x) x.taken row.stamp (span (rule_formula x.rule)) (oldest_held x')
-  pub strip_is : strip' ≡ with_newest (with_row strip row.stamp row) x'.held
+  pub strip_is : strip' ≡ with_row strip row.stamp row
   pub cells_long : length cells' ≡ length cells
-  pub refreshed : Refreshed ops read x.rule strip'.rows (oldest_held x) x.accepted x.taken strip.last cells cells' drawn.settled
+  pub refreshed : Refreshed ops read arming.rule strip'.rows (oldest_held x) x.accepted x.taken strip.last cells cells' settled
 
--- nothing but the tray can refuse a take
-pub record Takable {V : Type 0} (ops : Ops V) (x : Watch V) (strip : Ring SampleRow) (cells : List Cell) : Type 0 where
-  pub armed : x.armed ≡ true
-  pub fits : watch_fits x strip (length cells) ≡ true
+-- positions were let go, from the oldest held on
+pub record LetGo {V : Type 0} (x x' : Watch V) (strip strip' : Ring SampleRow) (span : ℕ) : Type 0 where
+  pub same_rule : SameRule x x'
+  pub accepted_stays : x'.accepted ≡ x.accepted
+  pub taken_stays : x'.taken ≡ x.taken
+  pub lets_go : FirstLater strip.rows (oldest_held x) x.taken strip.last span (oldest_held x')
+  pub strip_is : strip' ≡ with_newest strip x'.held
+
+-- nothing but the tray can refuse a take of an armed watch whose memory fits
+pub record Takable {V : Type 0} (ops : Ops V) (x : Watch V) (cells : List Cell) : Type 0 where
   pub untaken : x.taken < x.accepted
   pub settled : same_ends ops (last_cell x cells x.taken) ≡ true

@@ -1,5 +1,5 @@
 -- Which worlds, states of the model, memory stands for, and what a call must keep of that. Assumes nothing.
-use Rattle.std.specs.Prelude.{◌≡◌, ℕ, ◌-◌, ◌%◌, ◌<◌, ◌≤◌, true, ◌++◌, map, length, Some, None, Option, slice_index, slice_index_or}
+use Rattle.std.specs.Prelude.{◌≡◌, ℕ, ◌-◌, ◌%◌, ◌<◌, ◌≤◌, true, ◌++◌, map, length, None, slice_index, slice_index_or}
 use Rattle.std.specs.List.{AllByRecursion}
 use Rattle.scale.specs.Laws.{Ops}
 use Rattle.logic.specs.Trace.{blank, trace, newest, Rising}
@@ -8,15 +8,12 @@ use Rattle.sample.specs.Rows.{Fits}
 use Rattle.strip.specs.Ring.{contents}
 use Rattle.evaluation.specs.Memory.{cell_at, kept_ends}
 use Rattle.world.specs.Steps.{rule_in, accepted, places_in, held, held_count, reading_stamps, shown, step}
-use Rattle.world.specs.World.{Armed, World}
+use Rattle.world.specs.World.{World}
 use Rattle.world.specs.declared.answer.Answer.{Answer}
 use Rattle.world.specs.declared.call.Call.{Call}
 use Rattle.world.specs.declared.reading.Reading.{Reading}
-use Rattle.watch.specs.Memory.{Memory, armed_of, sizes, last_node, row_of}
-
-abbrev pub last_armed : Option Armed → ℕ
-last_armed None = 0
-last_armed (Some a) = last_node a.rule
+pub use Rattle.watch.specs.Memory.{last_armed}
+use Rattle.watch.specs.Memory.{Memory, armed_of, sizes, row_of}
 
 -- the abstraction relation: memory m represents the state w
 pub record Stands {V : Type 0} (ops : Ops V) (read : ℕ → ℕ → V) (w : World V) (m : Memory V) : Type 0 where

@@ -1,8 +1,9 @@
 //! The watch: it tests one rule on every sample that it draws from a source, in memory that the caller lends.
 #![tactic(auto)]
 
-mod cells;
-mod refresh;
+mod armed;
+mod before;
+mod places;
 mod stopped;
 mod watch;
 

@@ -1,31 +1,28 @@
-// The struct stands alone: its ghost fields import each `ghost use` of this file.
+// What has a ghost field imports each `ghost use` at the top of its file; so the calls, which cite more, stand in files below.
 ghost use Rattle.std.specs.Prelude.{◌+◌, ◌≤◌};
-ghost use Rattle.world.specs.Limits.{most_places};
 
-use rule::Rule;
+use crate::armed::Arming;
 use std::marker::PhantomData;
 
 mod accept;
 mod arm;
 mod draw;
+mod let_go;
 mod look;
 mod ready;
 mod take;
 
-/// A watch: the monitor of one rule on the test scale S. It has the rule and numbers; the sample strip, the cells, the tray and the
-/// source are lent to each call. It cannot be copied.
+/// A watch: the monitor of one rule on the test scale S. It has what it is armed with and numbers; the sample strip, the cells, the tray
+/// and the source are lent to each call, each by itself, since a caller keeps them in arrays of his own and a call takes what it needs.
+/// It cannot be copied.
 #[derive(Drop)]
 pub struct Watch<S> {
-    armed: bool,
-    rule: Rule,
-    /// C, the places of the sample strip.
-    places: usize,
+    arming: Option<Arming>,
     /// How many samples were accepted, and how many positions were taken and are held.
     accepted: u64,
     taken: u64,
     held: usize,
     scale: PhantomData<S>,
-    ghost few: { places ≤ most_places },
     ghost begun: { taken ≤ accepted },
     ghost past: { held ≤ accepted },
     ghost untaken: { accepted ≤ taken + held },

@@ -14,7 +14,8 @@ ghost use Rattle.watch.specs.Calls.{Promise, arm_said};
 ghost use Rattle.watch.specs.Memory.{memory};
 ghost use Rattle.watch.specs.Stands.{Stands, Unused};
 
-use crate::MOST_PLACES;
+use crate::armed::Arming;
+use crate::armed::memory::can_arm;
 use crate::stopped::{Stopped, Tally};
 use crate::watch::Watch;
 use evaluation::Cell;
@@ -25,26 +26,13 @@ use scale::{Scale, TestScale};
 use std::marker::PhantomData;
 use strip::Strip;
 
-/// Whether a watch can be armed with the rule: the strip is unused and has span + 1 to 4096 places, and there is a cell for each place
-/// and node.
-fn can_arm(rule: &Rule, strip: &Strip<'_, SampleRow>, cells: &[Cell]) -> bool
-    ensures { result ≡ arm_fits rule.now (record { places = length strip.now.rows.now; cells = length cells.now; tray_places = 0 }) strip.now.taken }
-{
-    strip.taken() == 0
-        && (strip.places() as u64) > rule.span()
-        && strip.places() <= MOST_PLACES
-        && cells.len() == strip.places() * rule.nodes().len()
-}
-
 impl<S: TestScale> Watch<S> {
     /// A watch that was never armed.
     pub fn new() -> Watch<S>
         ensures { (strip : Ring AnyRow) (cells : List AnyCell) (tray : Ring ReadingRow) (coming : Coming) → strip.taken ≡ 0 → tray.taken ≡ 0 → Unused (memory result strip cells tray coming) }
     {
         Watch {
-            armed: false,
-            rule: Rule::new(),
-            places: 0,
+            arming: None,
             accepted: 0,
             taken: 0,
             held: 0,
@@ -61,15 +49,16 @@ impl<S: TestScale> Watch<S> {
     ) -> Result<(), Refusal>
         ensures { (tray : Ring ReadingRow) (coming : Coming) → Promise S.Scale.ops S.TestScale.reading (Arm rule.now) (memory self.old (ring_of strip.now) cells.now tray coming) (memory self.new (ring_of strip.now) cells.now tray coming) (arm_said result) }
     {
-        if self.armed {
+        if self.arming.is_some() {
             return Err(Refusal::Armed);
         }
         if !can_arm(rule, strip, cells) {
             return Err(Refusal::Memory);
         }
-        self.armed = true;
-        self.rule = *rule;
-        self.places = strip.places();
+        self.arming = Some(Arming {
+            rule: *rule,
+            places: strip.places(),
+        });
         Ok(())
     }
 
@@ -79,20 +68,11 @@ impl<S: TestScale> Watch<S> {
         ensures tally { result.tally ≡ record { accepted = self.accepted; taken = self.taken; untaken = self.accepted - self.taken } }
         ensures standing { (strip : Ring AnyRow) (cells : List AnyCell) (tray : Ring ReadingRow) (coming : Coming) (w : World S) → Stands S.Scale.ops S.TestScale.reading w (memory self strip cells tray coming) → result.tally ≡ record { accepted = accepted w; taken = w.taken; untaken = accepted w - w.taken } }
     {
-        let Watch {
-            armed: _,
-            rule: _,
-            places: _,
-            accepted,
-            taken,
-            held: _,
-            scale: _,
-        } = self;
         Stopped {
             tally: Tally {
-                accepted,
-                taken,
-                untaken: accepted - taken,
+                accepted: self.accepted,
+                taken: self.taken,
+                untaken: self.accepted - self.taken,
             },
         }
     }

@@ -9,7 +9,7 @@ ghost use Rattle.world.specs.declared.call.Call.TheVariants.{Look, Alarm, Pull};
 ghost use Rattle.watch.specs.Calls.{Promise, look_said, alarm_said, pull_said};
 ghost use Rattle.watch.specs.Memory.{memory};
 
-use crate::cells::{cell_at, first_failing, stamp_at};
+use crate::places::{ends, stamp_at};
 use crate::watch::Watch;
 use evaluation::Cell;
 use refusal::Refusal;
@@ -28,18 +28,14 @@ impl<S: TestScale> Watch<S> {
     ) -> Result<Shown<S>, Refusal>
         ensures { (tray : Ring AnyReading) (coming : Coming) → Promise S.Scale.ops S.TestScale.reading (Look position) (memory self.now (ring_of strip.now) cells.now tray coming) (memory self.now (ring_of strip.now) cells.now tray coming) (look_said result) }
     {
-        self.ready(strip, cells)?;
+        let arming = self.ready(strip, cells)?;
         if position >= self.accepted {
             return Err(Refusal::Unseen);
         }
-        if position < self.accepted - self.held as u64 {
+        if position < self.oldest() {
             return Err(Refusal::Gone);
         }
-        let cell = cell_at(cells, self.last_cells(), position);
-        Ok(Shown {
-            low: S::restored(cell.low),
-            high: S::restored(cell.high),
-        })
+        Ok(ends(arming.cell(cells, position)))
     }
 
     /// The first untaken position whose upper bound fails, with its stamp; `None` if there is none.
@@ -50,11 +46,11 @@ impl<S: TestScale> Watch<S> {
     ) -> Result<Option<(u64, u64)>, Refusal>
         ensures { (tray : Ring AnyReading) (coming : Coming) → Promise S.Scale.ops S.TestScale.reading Alarm (memory self.now (ring_of strip.now) cells.now tray coming) (memory self.now (ring_of strip.now) cells.now tray coming) (alarm_said result) }
     {
-        self.ready(strip, cells)?;
-        match first_failing::<S>(cells, self.last_cells(), self.taken, self.accepted) {
-            Some(position) => Ok(Some((position, stamp_at(strip.rows(), position)))),
-            None => Ok(None),
-        }
+        let arming = self.ready(strip, cells)?;
+        let last_cells = arming.last_cells(cells);
+        let failing = last_cells.first_failing::<S>(self.taken, self.accepted);
+        let rows = strip.rows();
+        Ok(failing.map(|position| (position, stamp_at(rows, position))))
     }
 
     /// Hands over the oldest reading on the tray, which then is gone from there.
