@@ -1,6 +1,6 @@
 // The patterns that a calibrator takes, and the waves that it gives.
-use crate::helpers::{check_source, expect, numbers};
-use sample::{Calibrator, Pattern, Source};
+use crate::helpers::{answer, check_source, each_case};
+use sample::{Calibrator, Ending, Pattern, Source};
 use std::process::Abort;
 use std::test::Fail;
 
@@ -40,7 +40,7 @@ const PATTERNS: &str = "
 
 fn check_pattern(rt: &impl Abort, figures: &[u64], line: &str) -> Result<(), Fail> {
     let [
-        expected,
+        number,
         first,
         count,
         half_period,
@@ -50,31 +50,34 @@ fn check_pattern(rt: &impl Abort, figures: &[u64], line: &str) -> Result<(), Fai
         rest @ ..,
     ] = figures
     else {
-        return expect(rt, figures, &[], line);
+        return Err(Fail::new("too few numbers"));
     };
-    let made = Calibrator::new(Pattern {
+    let pattern = Pattern {
         first: *first,
-        count: (*count).min(4_294_967_295) as u32,
-        half_period: (*half_period).min(4_294_967_295) as u32,
-        high: (*high).min(65535) as u16,
-        low: (*low).min(65535) as u16,
-    });
-    match made {
-        Ok(mut source) => {
-            expect(rt, &[0], &[*expected], line)?;
+        count: u32::try_from(*count)?,
+        half_period: u32::try_from(*half_period)?,
+        high: u16::try_from(*high)?,
+        low: u16::try_from(*low)?,
+    };
+    match (Calibrator::new(pattern), answer(*number, ())?) {
+        (Ok(mut source), Ok(())) => {
             for _ in 0..*passed_over {
                 source.step();
             }
-            check_source(rt, &mut source, rest, 11, 0, line)
+            check_source(rt, &mut source, rest, Ending::Dry, line)
         }
-        Err(why) => expect(rt, &[u64::from(why.number())], &[*expected], line),
+        (made, expected) => {
+            assert_eq!(rt; made.map(|_| ()), expected, "{}", line);
+            Ok(())
+        }
     }
 }
 
 #[test]
 fn patterns(rt: HostRuntime) -> Result<(), Fail> {
-    for line in PATTERNS.lines() {
-        check_pattern(&rt, &numbers(rt.alloc(), line)?, line)?;
-    }
-    Ok(())
+    each_case(
+        rt.alloc(),
+        PATTERNS,
+        |figures, line| check_pattern(&rt, figures, line),
+    )
 }

@@ -11,6 +11,7 @@ fn nodes(kind: u8, low: u16, high: u16) -> [NodeRow; 3] {
     [level(0), level(1), node(kind, 0, second, low, high)]
 }
 
+// A row has its kind as a number, as in a record.
 fn node(kind: u8, first: u8, second: u8, low: u16, high: u16) -> NodeRow {
     NodeRow {
         kind,
@@ -44,23 +45,22 @@ fn sample(stamp: u64, p: u16, q: u16) -> SampleRow {
     }
 }
 
+/// What lies in lent memory before.
+const UNTOUCHED: Cell = Cell { low: 7, high: 7 };
+
 /// The two ends that the evaluation writes for the last node at a position, with as many places as samples.
-fn ends<S: TestScale>(
-    rows: &[NodeRow],
-    samples: &[SampleRow],
-    position: usize,
-) -> Option<(i64, i64)> {
-    let Ok(rule) = Rule::from_rows(rows) else {
-        return None;
-    };
-    let mut cells = [Cell { low: 7, high: 7 }; 24];
-    let done = evaluate::<S>(&rule, samples, &mut cells, 0, samples.len(), 0);
-    let last = rows.len().saturating_sub(1).min(5);
-    let place = last * samples.len().min(4) + position.min(3);
-    match (done, cells.get(place)) {
-        (Ok(()), Some(cell)) => Some((cell.low, cell.high)),
-        _ => None,
-    }
+fn ends<S: TestScale>(rows: &[NodeRow], samples: &[SampleRow], position: usize) -> Option<Cell> {
+    let rule = Rule::from_rows(rows).ok()?;
+    let places = samples.len();
+    let mut cells = [UNTOUCHED; 24];
+    evaluate::<S>(&rule, samples, &mut cells, 0, places, 0).ok()?;
+    // By number, as docs/CALLS.md tells where a node's cells lie: that is tested too.
+    let last = rows.len().checked_sub(1)?.checked_mul(places)?;
+    cells.get(last.checked_add(position)?).copied()
+}
+
+fn cell(low: i64, high: i64) -> Option<Cell> {
+    Some(Cell { low, high })
 }
 
 #[test]
@@ -73,33 +73,29 @@ fn worked_examples(rt: HostRuntime) {
     let w = response();
     assert_eq!(rt;
         ends::<Margin>(&w, &capture[0..1], 0),
-        Some((-1905, 8193)),
+        cell(-1905, 8193),
         "one sample"
     );
     assert_eq!(rt;
         ends::<Margin>(&w, &capture, 0),
-        Some((105, 105)),
+        cell(105, 105),
         "position 0"
     );
     assert_eq!(rt;
         ends::<Margin>(&w, &capture, 1),
-        Some((105, 8193)),
+        cell(105, 8193),
         "position 1"
     );
-    assert_eq!(rt;
-        ends::<PassFail>(&w, &capture, 1),
-        Some((1, 1)),
-        "pass/fail"
-    );
+    assert_eq!(rt; ends::<PassFail>(&w, &capture, 1), cell(1, 1), "pass/fail");
     let next = [sample(5, 0, 0), sample(8, 3000, 0)];
     assert_eq!(rt;
         ends::<Margin>(&nodes(5, 0, 2), &next, 0),
-        Some((-8193, -8193)),
+        cell(-8193, -8193),
         "next late"
     );
     assert_eq!(rt;
         ends::<Margin>(&nodes(5, 0, 3), &next, 0),
-        Some((1905, 1905)),
+        cell(1905, 1905),
         "next in time"
     );
 }
@@ -109,27 +105,27 @@ fn bounds_and_refusals(rt: HostRuntime) {
     let one = [sample(0, 0, 0)];
     assert_eq!(rt;
         ends::<Margin>(&nodes(7, 2, 5), &one, 0),
-        Some((-8193, -4095)),
+        cell(-8193, -4095),
         "until"
     );
     assert_eq!(rt;
         ends::<PassFail>(&nodes(7, 2, 5), &one, 0),
-        Some((0, 0)),
+        cell(0, 0),
         "until fails"
     );
     let two = [sample(0, 0, 3000), sample(4, 3000, 0)];
     assert_eq!(rt;
         ends::<Margin>(&nodes(8, 0, 4), &two, 1),
-        Some((1905, 1905)),
+        cell(1905, 1905),
         "since"
     );
     assert_eq!(rt;
         ends::<Margin>(&nodes(8, 0, 3), &two, 1),
-        Some((-4095, -4095)),
+        cell(-4095, -4095),
         "since late"
     );
     let rule = Rule::new();
-    let mut cells = [Cell { low: 7, high: 7 }; 1];
+    let mut cells = [UNTOUCHED];
     assert_eq!(rt;
         evaluate::<Margin>(&rule, &two, &mut cells, 0, 2, 0),
         Err(Refusal::Memory),
@@ -150,5 +146,5 @@ fn bounds_and_refusals(rt: HostRuntime) {
         Err(Refusal::Memory),
         "too far"
     );
-    assert_eq!(rt; (cells[0].low, cells[0].high), (7, 7), "as they were");
+    assert_eq!(rt; cells, [UNTOUCHED], "as they were");
 }

@@ -1,51 +1,111 @@
-// What several trials use. A table of cases is a text: the numbers of a case stand on a line, and what it is for after a `#`.
+// What several trials use. A table of cases is a text: the numbers of a case stand on a line, and what it is for after a `#`. Refusals and
+// kinds are numbers there, as in the product's formats; `answer`, `ending` and `rows_of` turn them into values.
+use refusal::{Fault, Misfit, Refusal};
 use rule::{Node, NodeRow, Rule};
-use sample::{Ending, Sample, Source};
-use std::alloc::{AllocError, Global};
+use sample::{Ending, Sample, SampleRow, Source};
+use std::alloc::Global;
 use std::process::Abort;
 use std::test::Fail;
 
-/// The numbers on a line, up to its `#`.
-pub(crate) fn numbers(heap: Global, line: &str) -> Result<Vec<u64>, Fail> {
-    let mut found = Vec::new(heap);
-    for word in line.split_whitespace() {
-        if word == "#" {
-            break;
-        }
-        found.push(word.parse::<u64>()?)?;
-    }
-    Ok(found)
+/// Every refusal but a fault, from number 1 on.
+pub(crate) const REFUSALS: [Refusal; 19] = [
+    Refusal::Cut,
+    Refusal::Surplus,
+    Refusal::Count,
+    Refusal::Node,
+    Refusal::Span,
+    Refusal::Range,
+    Refusal::Armed,
+    Refusal::Memory,
+    Refusal::Idle,
+    Refusal::Full,
+    Refusal::Dry,
+    Refusal::Backward,
+    Refusal::Unseen,
+    Refusal::Gone,
+    Refusal::Open,
+    Refusal::Bare,
+    Refusal::TrayFull,
+    Refusal::TrayEmpty,
+    Refusal::Pattern,
+];
+
+/// The line of a table has a case, and is not empty or a heading.
+fn is_case(line: &&str) -> bool {
+    !line.is_empty() && !line.starts_with('#')
 }
 
-pub(crate) fn expect(
-    rt: &impl Abort,
-    found: &[u64],
-    expected: &[u64],
-    line: &str,
-) -> Result<(), Fail> {
-    assert_eq!(rt; found, expected, "{}", line);
+/// The numbers on a line, up to its `#`.
+pub(crate) fn numbers(heap: Global, line: &str) -> Result<Vec<u64>, Fail> {
+    line.split_whitespace()
+        .take_while(|word| *word != "#")
+        .map(|word| -> Result<u64, Fail> { Ok(word.parse::<u64>()?) })
+        .try_collect(heap)
+}
+
+/// Checks each case of a table: the numbers on its line, and the line, which names it.
+pub(crate) fn each_case<F: FnMut(&[u64], &str) -> Result<(), Fail>>(
+    heap: Global,
+    table: &str,
+    mut check: F,
+) -> Result<(), Fail>
+    requires { F.IsAlwaysCallable check }
+{
+    for line in table.lines().filter(is_case) {
+        check(&numbers(heap, line)?, line)?;
+    }
     Ok(())
 }
 
-/// The rows of nodes, from five numbers for each: kind, first, second, low and high.
-pub(crate) fn rows_of(heap: Global, figures: &[u64]) -> Result<Vec<NodeRow>, AllocError> {
-    let mut rows = Vec::new(heap);
-    for node in figures.chunks_exact(5) {
-        if let [kind, first, second, low, high] = node {
-            rows.push(NodeRow {
-                kind: (*kind).min(255) as u8,
-                first: (*first).min(255) as u8,
-                second: (*second).min(255) as u8,
-                low: (*low).min(65535) as u16,
-                high: (*high).min(65535) as u16,
-            })?;
-        }
-    }
-    Ok(rows)
+/// The answer of a case: what is given where its number is 0, and else the refusal of this number.
+pub(crate) fn answer<T: Drop>(number: u64, given: T) -> Result<Result<T, Refusal>, Fail> {
+    let Some(before) = number.checked_sub(1) else {
+        return Ok(Ok(given));
+    };
+    let Some(refusal) = REFUSALS.get(usize::try_from(before)?) else {
+        return Err(Fail::new("no refusal has this number"));
+    };
+    Ok(Err(*refusal))
 }
 
-/// The five numbers of a node, as its kind has them.
-fn figures_of(node: Node) -> [u64; 5] {
+/// The answer of a case of three numbers: what is given where the first is 0, and else the refusal of that number at the place that is
+/// the second; the third is 0 then.
+pub(crate) fn answer_at<T: Drop>(numbers: [u64; 3], given: T) -> Result<Result<T, Misfit>, Fail> {
+    let [number, place, third] = numbers;
+    match answer(number, given)? {
+        Ok(given) => Ok(Ok(given)),
+        Err(refusal) if third == 0 => Ok(Err(refusal.at(place))),
+        Err(_) => Err(Fail::new("a refusal with a third number")),
+    }
+}
+
+/// The row of a node: kind, first, second, low and high.
+fn node_row(figures: &[u64; 5]) -> Result<NodeRow, Fail> {
+    let [kind, first, second, low, high] = *figures;
+    Ok(NodeRow {
+        kind: u8::try_from(kind)?,
+        first: u8::try_from(first)?,
+        second: u8::try_from(second)?,
+        low: u16::try_from(low)?,
+        high: u16::try_from(high)?,
+    })
+}
+
+/// The rows of nodes, from five numbers for each.
+pub(crate) fn rows_of(heap: Global, figures: &[u64]) -> Result<Vec<NodeRow>, Fail> {
+    fives(figures)?.iter().map(node_row).try_collect(heap)
+}
+
+/// The numbers five by five, with none left over.
+fn fives(figures: &[u64]) -> Result<&[[u64; 5]], Fail> {
+    match figures.as_chunks() {
+        (fives, []) => Ok(fives),
+        _ => Err(Fail::new("numbers that are not five by five")),
+    }
+}
+
+/// The row that a node's kind is written as: written out here by hand, since it tests `Node::row`.
+fn written(node: Node) -> NodeRow {
     let (kind, first, second, low, high) = match node {
         Node::True => (0, 0, 0, 0, 0),
         Node::Level { channel, level } => (1, channel, 0, level.value(), 0),
@@ -67,80 +127,65 @@ fn figures_of(node: Node) -> [u64; 5] {
             high,
         } => (8, first, second, low, high),
     };
-    [
+    NodeRow {
         kind,
-        u64::from(first),
-        u64::from(second),
-        u64::from(low),
-        u64::from(high),
-    ]
-}
-
-/// The nodes of the rule have these numbers, five for each, and so have their rows.
-pub(crate) fn check_nodes(
-    rt: &impl Abort,
-    heap: Global,
-    rule: &Rule,
-    expected: &[u64],
-    line: &str,
-) -> Result<(), Fail> {
-    let mut nodes = Vec::new(heap);
-    let mut rows = Vec::new(heap);
-    for node in rule.nodes() {
-        let node = *node;
-        nodes.extend_from_slice(&figures_of(node))?;
-        let row = node.row();
-        rows.extend_from_slice(&[
-            u64::from(row.kind),
-            u64::from(row.first),
-            u64::from(row.second),
-            u64::from(row.low),
-            u64::from(row.high),
-        ])?;
+        first,
+        second,
+        low,
+        high,
     }
-    expect(rt, &nodes, expected, line)?;
-    expect(rt, &rows, expected, line)
 }
 
-/// The stamp and the codes of a sample.
-pub(crate) fn shown(sample: Sample) -> [u64; 5] {
-    let [a, b, c, d] = sample.codes();
-    [
-        sample.stamp(),
-        u64::from(a),
-        u64::from(b),
-        u64::from(c),
-        u64::from(d),
-    ]
+/// The nodes of the rule are written as these rows, and have them.
+pub(crate) fn check_nodes(rt: &impl Abort, rule: &Rule, expected: &[NodeRow], line: &str) {
+    assert_eq!(rt; rule.nodes().len(), expected.len(), "{}", line);
+    for (node, row) in rule.nodes().iter().zip(expected) {
+        assert_eq!(rt; (written(*node), node.row()), (*row, *row), "{}", line);
+    }
 }
 
-/// The source gives these samples, five numbers for each, and each of them twice when it is asked twice; then it ends, dry if the
-/// number is 11 and else in a fault of this number and place, and stays there when it is told to go on.
+/// The row of a sample: its stamp and four codes.
+pub(crate) fn sample_row(figures: &[u64; 5]) -> Result<SampleRow, Fail> {
+    let [stamp, a, b, c, d] = *figures;
+    Ok(SampleRow {
+        stamp,
+        codes: [
+            u16::try_from(a)?,
+            u16::try_from(b)?,
+            u16::try_from(c)?,
+            u16::try_from(d)?,
+        ],
+    })
+}
+
+/// How a source ends: dry if the number is 11, and else in a fault of this number and place.
+pub(crate) fn ending(number: u64, place: u64) -> Result<Ending, Fail> {
+    if number == 11 && place == 0 {
+        return Ok(Ending::Dry);
+    }
+    let number = u32::try_from(number)?;
+    Ok(Ending::Fault(Fault { number, place }))
+}
+
+/// The source gives these samples, five numbers for each, and each of them twice when it is asked twice; then it ends so, and stays there
+/// when it is told to go on.
 pub(crate) fn check_source<S: Source>(
     rt: &impl Abort,
     source: &mut S,
     samples: &[u64],
-    number: u64,
-    place: u64,
+    ending: Ending,
     line: &str,
 ) -> Result<(), Fail> {
-    expect(rt, &[samples.len() as u64 % 5], &[0], line)?;
-    for expected in samples.chunks_exact(5) {
+    for figures in fives(samples)? {
+        let row = sample_row(figures)?;
+        let sample = Sample::new(row.stamp, row.codes)?;
         for _ in 0..2 {
-            match source.peek() {
-                Ok(sample) => expect(rt, &shown(sample), expected, line)?,
-                Err(_) => panic!(rt; "no sample where one was to come: {}", line),
-            }
+            assert_eq!(rt; source.peek(), Ok(sample), "{}", line);
         }
         source.step();
     }
     for _ in 0..3 {
-        let found = match source.peek() {
-            Ok(_) => panic!(rt; "a sample where none was to come: {}", line),
-            Err(Ending::Dry) => [11, 0],
-            Err(Ending::Fault(fault)) => [u64::from(fault.number), fault.place],
-        };
-        expect(rt, &found, &[number, place], line)?;
+        assert_eq!(rt; source.peek(), Err(ending), "{}", line);
         source.step();
     }
     Ok(())
@@ -163,10 +208,11 @@ pub(crate) const RESPONSE: &[u8; 111] = b"\
     \x0e\x00\x00\x00\x00\x00\x00\x00\x00\x00\x00\x00\x00\x00\x00\x00";
 
 /// Those bytes with one of them replaced.
-pub(crate) fn damaged(place: u64, value: u64) -> [u8; 111] {
+pub(crate) fn damaged(place: u64, value: u8) -> Result<[u8; 111], Fail> {
     let mut bytes = *RESPONSE;
-    if place < 111 {
-        bytes[place as usize] = value.min(255) as u8;
-    }
-    bytes
+    let Some(byte) = bytes.get_mut(usize::try_from(place)?) else {
+        return Err(Fail::new("no byte at this place"));
+    };
+    *byte = value;
+    Ok(bytes)
 }

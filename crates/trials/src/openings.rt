@@ -1,56 +1,62 @@
 // Opening records: each test, its place, and the order of the tests; and one small record, cut and damaged everywhere.
-use crate::helpers::{RESPONSE, check_nodes, damaged, expect, numbers, rows_of};
-use record::{comriep_record_number, comriep_record_place, open};
-use rule::Rule;
+use crate::helpers::{RESPONSE, answer_at, check_nodes, damaged, each_case, numbers, rows_of};
+use record::{Opened, comriep_record_number, comriep_record_place, open};
+use rule::{NodeRow, Rule};
 use std::alloc::Global;
 use std::process::Abort;
 use std::test::Fail;
 
 /// The nodes of another rule, which looks five ticks ahead.
-const BEFORE: [u64; 10] = [1, 2, 0, 7, 0, 5, 0, 0, 1, 5];
+const BEFORE: [NodeRow; 2] = [
+    NodeRow {
+        kind: 1,
+        first: 2,
+        second: 0,
+        low: 7,
+        high: 0,
+    },
+    NodeRow {
+        kind: 5,
+        first: 0,
+        second: 0,
+        low: 1,
+        high: 5,
+    },
+];
 
-/// Opens the record over another rule. What is expected: the answer, of a record 0, its samples and their place, of a refusal its
-/// number, its place and 0; then how many nodes the rule has that is there after, and its wait. Refused, that is the other rule. The
-/// two functions that answer number and place alone agree.
+/// Opens the record over another rule, and answers the rule that is there after. What is expected: the answer, of a record 0, its samples
+/// and their place, of a refusal its number, its place and 0; then how many nodes the rule has, and its wait. Refused, that is the other
+/// rule. The two functions that answer number and place alone agree.
 fn check_opening(
     rt: &impl Abort,
-    heap: Global,
     bytes: &[u8],
-    rule: &mut Rule,
-    expected: &[u64],
+    expected: &[u64; 5],
     line: &str,
-) -> Result<(), Fail> {
-    let number = u64::from(comriep_record_number(bytes));
-    let place = comriep_record_place(bytes);
-    match Rule::from_rows(&rows_of(heap, &BEFORE)?) {
-        Ok(other) => *rule = other,
-        Err(_) => return Err(Fail::new("no rule to begin with")),
+) -> Result<Rule, Fail> {
+    let [number, second, third, nodes, wait] = *expected;
+    let opened = Opened {
+        samples: u32::try_from(second)?,
+        start: usize::try_from(third)?,
+    };
+    let expected = answer_at([number, second, third], opened)?;
+    let mut rule = Rule::from_rows(&BEFORE)?;
+    assert_eq!(rt; open(bytes, &mut rule), expected, "{}", line);
+    assert_eq!(rt;
+        (rule.nodes().len() as u64, rule.wait()),
+        (nodes, wait),
+        "{}",
+        line
+    );
+    let place = expected.err().map_or(0, |misfit| misfit.place);
+    let told = (
+        u64::from(comriep_record_number(bytes)),
+        comriep_record_place(bytes),
+    );
+    assert_eq!(rt; told, (number, place), "{}", line);
+    if expected.is_err() {
+        check_nodes(rt, &rule, &BEFORE, line);
     }
-    match open(bytes, rule) {
-        Ok(opened) => {
-            let samples = u64::from(opened.samples);
-            let nodes = rule.nodes().len() as u64;
-            expect(
-                rt,
-                &[0, samples, opened.start as u64, nodes, rule.wait()],
-                expected,
-                line,
-            )?;
-            expect(rt, &[number, place], &[0, 0], line)
-        }
-        Err(misfit) => {
-            let found = u64::from(misfit.refusal.number());
-            let nodes = rule.nodes().len() as u64;
-            expect(
-                rt,
-                &[found, misfit.place, 0, nodes, rule.wait()],
-                expected,
-                line,
-            )?;
-            expect(rt, &[number, place], &[found, misfit.place], line)?;
-            check_nodes(rt, heap, rule, &BEFORE, line)
-        }
-    }
+    Ok(rule)
 }
 
 /// The answer; the count of nodes and the wait of the rule that is there after; how many bytes of 0 follow; the bytes before them.
@@ -115,25 +121,22 @@ const RECORDS: &str = "
 
 fn check_record(rt: &impl Abort, heap: Global, figures: &[u64], line: &str) -> Result<(), Fail> {
     let [number, second, third, nodes, wait, zeros, record @ ..] = figures else {
-        return expect(rt, figures, &[], line);
+        return Err(Fail::new("too few numbers"));
     };
-    let mut bytes = Vec::new(heap);
-    for figure in record {
-        bytes.push((*figure).min(255) as u8)?;
-    }
-    let size = bytes.len().saturating_add(*zeros as usize);
+    let mut bytes: Vec<u8> = record
+        .iter()
+        .map(|byte| -> Result<u8, Fail> { Ok(u8::try_from(*byte)?) })
+        .try_collect(heap)?;
+    let size = bytes.len().saturating_add(usize::try_from(*zeros)?);
     bytes.resize(size, 0)?;
-    check_opening(
-        rt,
-        heap,
-        &bytes,
-        &mut Rule::new(),
-        &[*number, *second, *third, *nodes, *wait],
-        line,
-    )
+    check_opening(rt, &bytes, &[*number, *second, *third, *nodes, *wait], line)?;
+    Ok(())
 }
 
-/// The first and the last of some places; the byte that is put there, or 256 where the record is cut there; the answer, and the count
+/// In place of a byte: the record is cut there.
+const CUT: u64 = 256;
+
+/// The first and the last of some places; the byte that is put there, or `CUT`; the answer, and the count
 /// of nodes and the wait of the rule that is there after.
 const DAMAGES: &str = "
 # cut
@@ -161,33 +164,40 @@ const DAMAGES: &str = "
 ";
 
 fn check_damage(rt: &impl Abort, heap: Global, figures: &[u64], line: &str) -> Result<u64, Fail> {
+    let [first, last, value, expected @ ..] = figures else {
+        return Err(Fail::new("too few numbers"));
+    };
+    // The place is what is damaged, and the count shows at the end that all were.
     let mut seen = 0u64;
-    if let [first, last, value, expected @ ..] = figures {
-        for place in *first..=*last {
-            let bytes = damaged(place, *value);
-            let size = if *value == 256 { place.min(111) } else { 111 };
-            let named = format!(in heap; "{line} (byte {place})")?;
-            check_opening(
-                rt,
-                heap,
-                &bytes[0..size as usize],
-                &mut Rule::new(),
-                expected,
-                &named,
-            )?;
-            seen = seen.saturating_add(1);
+    for place in *first..=*last {
+        let named = format!(in heap; "{line} (byte {place})")?;
+        if *value == CUT {
+            check_opening(rt, front(place)?, expected.try_into()?, &named)?;
+        } else {
+            let bytes = damaged(place, u8::try_from(*value)?)?;
+            check_opening(rt, &bytes, expected.try_into()?, &named)?;
         }
+        seen = seen.saturating_add(1);
     }
     Ok(seen)
+}
+
+/// The first bytes of the record, up to a place.
+fn front(place: u64) -> Result<&'static [u8], Fail> {
+    let Some(bytes) = RESPONSE.get(..usize::try_from(place)?) else {
+        return Err(Fail::new("no byte at this place"));
+    };
+    Ok(bytes)
 }
 
 #[test]
 fn records(rt: HostRuntime) -> Result<(), Fail> {
     let heap = rt.alloc();
-    for line in RECORDS.lines() {
-        check_record(&rt, heap, &numbers(heap, line)?, line)?;
-    }
-    Ok(())
+    each_case(
+        heap,
+        RECORDS,
+        |figures, line| check_record(&rt, heap, figures, line),
+    )
 }
 
 /// Every length and every byte.
@@ -195,22 +205,16 @@ fn records(rt: HostRuntime) -> Result<(), Fail> {
 fn damages(rt: HostRuntime) -> Result<(), Fail> {
     let heap = rt.alloc();
     let mut seen = 0u64;
-    for line in DAMAGES.lines() {
-        seen = seen.saturating_add(check_damage(&rt, heap, &numbers(heap, line)?, line)?);
-    }
-    expect(&rt, &[seen], &[222], "how many")?;
-    let mut rule = Rule::new();
-    check_opening(
-        &rt,
-        heap,
-        RESPONSE,
-        &mut rule,
-        &[0, 4, 47, 6, 3],
-        "the whole record",
-    )?;
+    each_case(heap, DAMAGES, |figures, line| {
+        seen = seen.saturating_add(check_damage(&rt, heap, figures, line)?);
+        Ok(())
+    })?;
+    assert_eq!(rt; seen, 222, "how many");
+    let rule = check_opening(&rt, RESPONSE, &[0, 4, 47, 6, 3], "the whole record")?;
     let nodes = numbers(
         heap,
         "1 0 0 2048 0  2 0 0 0 0  0 0 0 0 0  1 1 0 2048 0  7 2 3 0 3  3 1 4 0 0",
     )?;
-    check_nodes(&rt, heap, &rule, &nodes, "the whole record")
+    check_nodes(&rt, &rule, &rows_of(heap, &nodes)?, "the whole record");
+    Ok(())
 }

@@ -1,5 +1,5 @@
 // Rules from rows: the limits of counts, rows and spans.
-use crate::helpers::{check_nodes, expect, numbers, rows_of};
+use crate::helpers::{answer_at, check_nodes, each_case, rows_of};
 use rule::Rule;
 use std::alloc::Global;
 use std::process::Abort;
@@ -128,45 +128,38 @@ const ANSWERS: &str = "
 
 fn check_answer(rt: &impl Abort, heap: Global, figures: &[u64], line: &str) -> Result<(), Fail> {
     let [number, second, third, nodes @ ..] = figures else {
-        return expect(rt, figures, &[], line);
+        return Err(Fail::new("too few numbers"));
     };
-    expect(rt, &[nodes.len() as u64 % 5], &[0], line)?;
-    match Rule::from_rows(&rows_of(heap, nodes)?) {
-        Ok(rule) => {
-            let span = (*second).saturating_add(*third);
-            expect(
-                rt,
-                &[0, rule.wait(), rule.reach(), rule.span()],
-                &[*number, *second, *third, span],
-                line,
-            )?;
-            check_nodes(rt, heap, &rule, nodes, line)
-        }
-        Err(misfit) => {
-            let found = u64::from(misfit.refusal.number());
-            expect(
-                rt,
-                &[found, misfit.place, 0],
-                &[*number, *second, *third],
-                line,
-            )
-        }
+    let rows = rows_of(heap, nodes)?;
+    let expected = answer_at([*number, *second, *third], (*second, *third))?;
+    let made = Rule::from_rows(&rows);
+    assert_eq!(rt;
+        made.map(|rule| (rule.wait(), rule.reach())),
+        expected,
+        "{}",
+        line
+    );
+    if let Ok(rule) = made {
+        assert_eq!(rt;
+            rule.span(),
+            rule.wait().saturating_add(rule.reach()),
+            "{}",
+            line
+        );
+        check_nodes(rt, &rule, &rows, line);
     }
+    Ok(())
 }
 
 #[test]
 fn answers(rt: HostRuntime) -> Result<(), Fail> {
     let heap = rt.alloc();
     let new = Rule::new();
-    expect(
-        &rt,
-        &[new.wait(), new.reach(), new.span()],
-        &[0, 0, 0],
-        "a new rule",
-    )?;
-    check_nodes(&rt, heap, &new, &[0, 0, 0, 0, 0], "a new rule")?;
-    for line in ANSWERS.lines() {
-        check_answer(&rt, heap, &numbers(heap, line)?, line)?;
-    }
-    Ok(())
+    assert_eq!(rt; (new.wait(), new.reach(), new.span()), (0, 0, 0));
+    check_nodes(&rt, &new, &rows_of(heap, &[0; 5])?, "a new rule");
+    each_case(
+        heap,
+        ANSWERS,
+        |figures, line| check_answer(&rt, heap, figures, line),
+    )
 }

@@ -1,6 +1,7 @@
 // Samples, and their plain rows.
-use crate::helpers::{expect, numbers, shown};
+use crate::helpers::{answer, each_case, sample_row};
 use sample::{Sample, SampleRow};
+use scale::Code;
 use std::process::Abort;
 use std::test::Fail;
 
@@ -22,55 +23,40 @@ const FIGURES: &str = "
 1099511627777 4096 4096 4096 4096   6   1099511627775 4095 4095 4095 4095
 ";
 
-/// The code of a channel, and 65535 where there is none.
-fn code_of(sample: &Sample, channel: usize) -> u64 {
-    match sample.code(channel) {
-        Some(code) => u64::from(code.value()),
-        None => 65535,
+/// Stamp and codes, as the sample's calls tell them.
+fn told(sample: &Sample) -> SampleRow {
+    SampleRow {
+        stamp: sample.stamp(),
+        codes: sample.codes(),
     }
 }
 
 fn check_sample(rt: &impl Abort, figures: &[u64], line: &str) -> Result<(), Fail> {
     let [stamp, a, b, c, d, number, expected @ ..] = figures else {
-        return expect(rt, figures, &[], line);
+        return Err(Fail::new("too few numbers"));
     };
-    let stamp = *stamp;
-    let codes = [
-        (*a).min(65535) as u16,
-        (*b).min(65535) as u16,
-        (*c).min(65535) as u16,
-        (*d).min(65535) as u16,
-    ];
-    let sample = Sample::from_row(SampleRow { stamp, codes });
-    expect(rt, &shown(sample), expected, line)?;
+    let row = sample_row(&[*stamp, *a, *b, *c, *d])?;
+    let expected = sample_row(expected.try_into()?)?;
+    let sample = Sample::from_row(row);
     let again = Sample::from_row(sample.row());
-    let by_channel = [
-        again.stamp(),
-        code_of(&again, 0),
-        code_of(&again, 1),
-        code_of(&again, 2),
-        code_of(&again, 3),
-    ];
-    expect(rt, &by_channel, expected, line)?;
-    expect(
-        rt,
-        &[code_of(&again, 4), code_of(&again, usize::MAX)],
-        &[65535, 65535],
-        line,
-    )?;
-    match Sample::new(stamp, codes) {
-        Ok(made) => {
-            expect(rt, &[0], &[*number], line)?;
-            expect(rt, &shown(made), expected, line)
-        }
-        Err(why) => expect(rt, &[u64::from(why.number())], &[*number], line),
-    }
+    assert_eq!(rt; (told(&sample), again), (expected, sample), "{}", line);
+    let by_channel = [0, 1, 2, 3, 4, usize::MAX].map(|channel| sample.code(channel));
+    let [a, b, c, d] = expected.codes.map(|code| Code::new(code).ok());
+    assert_eq!(rt; by_channel, [a, b, c, d, None, None], "{}", line);
+    assert_eq!(rt;
+        Sample::new(row.stamp, row.codes),
+        answer(*number, sample)?,
+        "{}",
+        line
+    );
+    Ok(())
 }
 
 #[test]
 fn figures(rt: HostRuntime) -> Result<(), Fail> {
-    for line in FIGURES.lines() {
-        check_sample(&rt, &numbers(rt.alloc(), line)?, line)?;
-    }
-    Ok(())
+    each_case(
+        rt.alloc(),
+        FIGURES,
+        |figures, line| check_sample(&rt, figures, line),
+    )
 }

@@ -1,17 +1,17 @@
 // Codes, and the two scales on which they are read.
+use refusal::Refusal;
 use scale::{Code, Margin, PassFail, Scale, TestScale};
 use std::process::Abort;
-use std::test::Fail;
 
-/// A number; the code made of it, or the number of the refusal; the nearest code; whether a code is made.
-const CODES: [(u16, i64, i64, bool); 7] = [
-    (0, 0, 0, true),
-    (1, 1, 1, true),
-    (4094, 4094, 4094, true),
-    (4095, 4095, 4095, true),
-    (4096, 6, 4095, false),
-    (8191, 6, 4095, false),
-    (65535, 6, 4095, false),
+/// A number; the code made of it, or the number of the refusal; the nearest code.
+const CODES: [(u16, Result<u16, u32>, u16); 7] = [
+    (0, Ok(0), 0),
+    (1, Ok(1), 1),
+    (4094, Ok(4094), 4094),
+    (4095, Ok(4095), 4095),
+    (4096, Err(6), 4095),
+    (8191, Err(6), 4095),
+    (65535, Err(6), 4095),
 ];
 
 /// Code and level; the verdict and the margin as they are kept; whether they pass.
@@ -28,13 +28,16 @@ const READINGS: [(u16, u16, i64, i64, bool); 8] = [
 
 #[test]
 fn codes_and_readings(rt: HostRuntime) {
-    for (number, made, nearest, accepted) in CODES {
-        let near = i64::from(Code::nearest(number).value());
-        let told = match Code::new(number) {
-            Ok(code) => (i64::from(code.value()), near, true),
-            Err(why) => (i64::from(why.number()), near, false),
-        };
-        assert_eq!(rt; told, (made, nearest, accepted), "{}", number);
+    for (number, made, nearest) in CODES {
+        let told = Code::try_from(number)
+            .map(u16::from)
+            .map_err(Refusal::number);
+        assert_eq!(rt;
+            (told, Code::nearest(number).value()),
+            (made, nearest),
+            "{}",
+            number
+        );
     }
     for (code, level, verdict, margin, passes) in READINGS {
         let code = Code::nearest(code);
@@ -42,7 +45,7 @@ fn codes_and_readings(rt: HostRuntime) {
         let one = PassFail::read(code, level);
         let other = Margin::read(code, level);
         assert_eq!(rt;
-            (one.kept(), i64::from(other.value()), one.passes()),
+            (one.kept(), i64::from(i32::from(other)), one.passes()),
             (verdict, margin, passes),
             "of a reading"
         );
@@ -117,38 +120,37 @@ fn check_scale<S: Scale>(
     worst: i64,
     numbers: &[Restored],
     pairs: &[Pair],
-) -> Result<(), Fail> {
+) {
     assert_eq!(rt;
         (S::best().kept(), S::worst().kept(), S::best().passes()),
         (best, worst, true),
         "best and worst of {}",
         name
     );
-    for (number, kept, turned, passes) in numbers {
-        let value = S::restored(*number);
+    for &(number, kept, turned, passes) in numbers {
+        let value = S::restored(number);
         assert_eq!(rt;
             (value.kept(), value.turn_over().kept(), value.passes()),
-            (*kept, *turned, *passes),
+            (kept, turned, passes),
             "{} of {}",
-            *number,
+            number,
             name
         );
     }
-    for (one, other, either, both, same) in pairs {
-        let a = S::restored(*one);
-        let b = S::restored(*other);
+    for &(one, other, either, both, same) in pairs {
+        let a = S::restored(one);
+        let b = S::restored(other);
         assert_eq!(rt;
             (a.or(b).kept(), a.and(b).kept(), a.same(b)),
-            (*either, *both, *same),
+            (either, both, same),
             "of two values of {}",
             name
         );
     }
-    Ok(())
 }
 
 #[test]
-fn scales(rt: HostRuntime) -> Result<(), Fail> {
-    check_scale::<PassFail>(&rt, "pass/fail", 1, 0, &VERDICTS, &VERDICT_PAIRS)?;
-    check_scale::<Margin>(&rt, "margins", 8193, -8193, &MARGINS, &MARGIN_PAIRS)
+fn scales(rt: HostRuntime) {
+    check_scale::<PassFail>(&rt, "pass/fail", 1, 0, &VERDICTS, &VERDICT_PAIRS);
+    check_scale::<Margin>(&rt, "margins", 8193, -8193, &MARGINS, &MARGIN_PAIRS);
 }

@@ -1,5 +1,5 @@
 // The samples of a record, as a source.
-use crate::helpers::{check_source, damaged, expect, numbers};
+use crate::helpers::{check_source, damaged, each_case, ending};
 use record::RecordSource;
 use std::process::Abort;
 use std::test::Fail;
@@ -40,18 +40,21 @@ const CASES: &str = "
 
 fn check_case(rt: &impl Abort, figures: &[u64], line: &str) -> Result<(), Fail> {
     let [place, value, size, start, number, end, samples @ ..] = figures else {
-        return expect(rt, figures, &[], line);
+        return Err(Fail::new("too few numbers"));
     };
-    let bytes = damaged(*place, *value);
-    let size = (*size).min(111) as usize;
-    let mut source = RecordSource::new(&bytes[0..size], *start as usize);
-    check_source(rt, &mut source, samples, *number, *end, line)
+    let bytes = damaged(*place, u8::try_from(*value)?)?;
+    let Some(bytes) = bytes.get(..usize::try_from(*size)?) else {
+        return Err(Fail::new("the record is not so long"));
+    };
+    let mut source = RecordSource::new(bytes, usize::try_from(*start)?);
+    check_source(rt, &mut source, samples, ending(*number, *end)?, line)
 }
 
 #[test]
 fn samples(rt: HostRuntime) -> Result<(), Fail> {
-    for line in CASES.lines() {
-        check_case(&rt, &numbers(rt.alloc(), line)?, line)?;
-    }
-    Ok(())
+    each_case(
+        rt.alloc(),
+        CASES,
+        |figures, line| check_case(&rt, figures, line),
+    )
 }
