@@ -26,7 +26,7 @@ impl Ring<'_> {
     }
 
     /// Next: the ends at the position after j; after the newest one, unknown where the high bound leaves room for a sample to come.
-    pub fn next<S: Scale>(&self, bounds: Bounds, j: usize) -> Ends<S>
+    pub(crate) fn next<S: Scale>(&self, bounds: Bounds, j: usize) -> Ends<S>
         requires { j < self.now.view.count }
         ensures { Climbs (trace_in self.now.view) → told result ≡ next_ends S.ops (trace_in self.now.view) bounds.low bounds.high (ends_at S.ops self.now) j }
     {
@@ -41,7 +41,7 @@ impl Ring<'_> {
     }
 
     /// Yesterday: the ends at the position before j.
-    pub fn yesterday<S: Scale>(&self, bounds: Bounds, j: usize) -> Ends<S>
+    pub(crate) fn yesterday<S: Scale>(&self, bounds: Bounds, j: usize) -> Ends<S>
         requires { j < self.now.view.count }
         ensures { Climbs (trace_in self.now.view) → told result ≡ yesterday_ends S.ops (trace_in self.now.view) bounds.low bounds.high (ends_at S.ops self.now) j }
     {
@@ -53,7 +53,7 @@ impl Ring<'_> {
 
     /// Until, with this node on the left. While samples to come can be within the bounds, the high end is also what the left one holds so
     /// far.
-    pub fn until<S: Scale>(&self, right: &Ring, bounds: Bounds, j: usize) -> Ends<S>
+    pub(crate) fn until<S: Scale>(&self, right: &Ring, bounds: Bounds, j: usize) -> Ends<S>
         requires same { right.now.view ≡ self.now.view }
         requires j { j < self.now.view.count }
         ensures { Climbs (trace_in self.now.view) → told result ≡ until_ends S.ops (trace_in self.now.view) bounds.low bounds.high (ends_at S.ops self.now) (ends_at S.ops right.now) j }
@@ -67,7 +67,7 @@ impl Ring<'_> {
     }
 
     /// Since, with this node on the left.
-    pub fn since<S: Scale>(&self, right: &Ring, bounds: Bounds, j: usize) -> Ends<S>
+    pub(crate) fn since<S: Scale>(&self, right: &Ring, bounds: Bounds, j: usize) -> Ends<S>
         requires same { right.now.view ≡ self.now.view }
         requires j { j < self.now.view.count }
         ensures { Climbs (trace_in self.now.view) → told result ≡ since_ends S.ops (trace_in self.now.view) bounds.low bounds.high (ends_at S.ops self.now) (ends_at S.ops right.now) j }

@@ -37,7 +37,7 @@ impl<S: Scale> From<Ends<S>> for Cell {
 
 impl<S: Scale> Ends<S> {
     /// Ends of a value that is known.
-    pub fn both(value: S) -> Ends<S>
+    pub(crate) fn both(value: S) -> Ends<S>
         ensures { result ≡ record { low = value; high = value } }
     {
         Ends {
@@ -48,7 +48,7 @@ impl<S: Scale> Ends<S> {
 
     /// Each end's or with the other's. `and` is written out beside it: a function that takes the operation would be no shorter, and its calls
     /// longer.
-    pub fn or(self, other: Ends<S>) -> Ends<S>
+    pub(crate) fn or(self, other: Ends<S>) -> Ends<S>
         ensures { result ≡ record { low = S.ops.or self.low other.low; high = S.ops.or self.high other.high } }
     {
         Ends {
@@ -58,7 +58,7 @@ impl<S: Scale> Ends<S> {
     }
 
     /// Each end's and with the other's.
-    pub fn and(self, other: Ends<S>) -> Ends<S>
+    pub(crate) fn and(self, other: Ends<S>) -> Ends<S>
         ensures { result ≡ record { low = S.ops.and self.low other.low; high = S.ops.and self.high other.high } }
     {
         Ends {
@@ -68,7 +68,7 @@ impl<S: Scale> Ends<S> {
     }
 
     /// The ends of the opposite value: the opposites, the other way round.
-    pub fn turn_over(self) -> Ends<S>
+    pub(crate) fn turn_over(self) -> Ends<S>
         ensures { result ≡ record { low = S.ops.turned self.high; high = S.ops.turned self.low } }
     {
         Ends {
@@ -78,7 +78,7 @@ impl<S: Scale> Ends<S> {
     }
 
     /// These ends where the test holds, else worst.
-    pub fn only_if(self, test: bool) -> Ends<S>
+    pub(crate) fn only_if(self, test: bool) -> Ends<S>
         ensures { result ≡ record { low = (if test then self.low else S.ops.worst); high = (if test then self.high else S.ops.worst) } }
     {
         if test { self } else { Ends::both(S::worst()) }

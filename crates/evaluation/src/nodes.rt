@@ -84,7 +84,7 @@ impl View<'_> {
     }
 
     /// Evaluates the nodes of a rule, the last one from position `from` on.
-    pub fn evaluate<S: TestScale>(&self, nodes: &[Node], cells: &mut [Cell], from: usize)
+    pub(crate) fn evaluate<S: TestScale>(&self, nodes: &[Node], cells: &mut [Cell], from: usize)
         requires sound { Sound nodes.now }
         requires some { 0 < length nodes.now }
         requires room { length nodes.now * length self.now.rows.now ≤ length cells.old }

@@ -18,7 +18,7 @@ pub(crate) struct Bounds {
 
 impl Bounds {
     /// Whether positions that are so many ticks apart are within the bounds.
-    pub fn contain(self, gap: u64) -> bool
+    pub(crate) fn contain(self, gap: u64) -> bool
         ensures { result ≡ near self.low self.high gap }
     {
         (u64::from(self.low)..=u64::from(self.high)).contains(&gap)
@@ -36,7 +36,7 @@ pub(crate) struct Seen<S> {
 
 impl Ring<'_> {
     /// Passes over positions in turn, from position j on or back, up to the first that is further from it than the high bound.
-    pub fn pass<S: Scale, I: Iterator<Item = usize> + Drop>(
+    pub(crate) fn pass<S: Scale, I: Iterator<Item = usize> + Drop>(
         &self,
         right: &Ring,
         bounds: Bounds,

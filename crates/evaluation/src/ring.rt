@@ -20,7 +20,7 @@ impl Ring<'_> {
     ghost use Rattle.evaluation.specs.Views.{ends_at};
 
     /// The node's ends at a position.
-    pub fn at<S: Scale>(&self, k: usize) -> Ends<S>
+    pub(crate) fn at<S: Scale>(&self, k: usize) -> Ends<S>
         requires { k < self.now.view.count }
         ensures { told result ≡ ends_at S.ops self.now k }
     {

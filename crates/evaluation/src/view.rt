@@ -27,7 +27,7 @@ impl<'a> View<'a> {
     // Each call asks for a position of the window, as a read of a slice asks for an index.
 
     /// The positions from `first` on, in a ring where each lies in the place of its remainder.
-    pub fn new(rows: &'a [SampleRow], first: u64, count: usize) -> View<'a>
+    pub(crate) fn new(rows: &'a [SampleRow], first: u64, count: usize) -> View<'a>
         requires some { 0 < length rows.now }
         requires held { count ≤ length rows.now }
         ensures rows { result.rows.now ≡ rows.now }
@@ -39,14 +39,14 @@ impl<'a> View<'a> {
     }
 
     /// How many places the ring has.
-    pub fn size(&self) -> usize
+    pub(crate) fn size(&self) -> usize
         ensures { result ≡ length self.now.rows.now }
     {
         self.rows.len()
     }
 
     /// The place of a position: no division, since searches ask for it.
-    pub fn place(&self, k: usize) -> usize
+    pub(crate) fn place(&self, k: usize) -> usize
         requires { k < self.now.count }
         ensures is { result ≡ (self.now.start + k) % length self.now.rows.now }
         ensures within { result < length self.now.rows.now }
@@ -60,7 +60,7 @@ impl<'a> View<'a> {
     }
 
     /// The stamp at a position; one above the limit counts as the limit.
-    pub fn stamp(&self, k: usize) -> u64
+    pub(crate) fn stamp(&self, k: usize) -> u64
         requires { k < self.now.count }
         ensures { result ≡ (trace_in self.now).stamp k }
     {
@@ -69,7 +69,7 @@ impl<'a> View<'a> {
     }
 
     /// How many ticks two positions are apart.
-    pub fn gap(&self, j: usize, k: usize) -> u64
+    pub(crate) fn gap(&self, j: usize, k: usize) -> u64
         requires j { j < self.now.count }
         requires k { k < self.now.count }
         ensures { result ≡ gap_in self.now j k }
@@ -78,7 +78,7 @@ impl<'a> View<'a> {
     }
 
     /// The code of a channel at a position; one above the largest counts as the largest.
-    pub fn code(&self, k: usize, channel: usize) -> Code
+    pub(crate) fn code(&self, k: usize, channel: usize) -> Code
         requires k { k < self.now.count }
         requires channel { channel ≤ largest_channel }
         ensures { result.value ≡ (trace_in self.now).code k channel }
@@ -88,7 +88,7 @@ impl<'a> View<'a> {
     }
 
     /// The ring of a node's cells.
-    pub fn ring<'c>(&self, cells: &'c [Cell], node: u8) -> Ring<'c>
+    pub(crate) fn ring<'c>(&self, cells: &'c [Cell], node: u8) -> Ring<'c>
     where
         'a: 'c,
         requires { (node + 1) * length self.now.rows.now ≤ length cells.now }

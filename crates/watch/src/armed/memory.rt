@@ -26,7 +26,7 @@ pub(crate) fn can_arm(rule: &Rule, strip: &Strip<'_, SampleRow>, cells: &[Cell])
 
 impl Arming {
     /// Whether strip and cells have the lengths of arming.
-    pub fn fits(&self, strip: &Strip<'_, SampleRow>, cells: &[Cell]) -> bool
+    pub(crate) fn fits(&self, strip: &Strip<'_, SampleRow>, cells: &[Cell]) -> bool
         ensures { result ≡ still_fits self.now.rule self.now.places (record { places = length strip.now.rows.now; cells = length cells.now; tray_places = 0 }) }
     {
         strip.places() == self.places && cells.len() == self.places * self.rule.nodes().len()
@@ -36,7 +36,7 @@ impl Arming {
     // made anew in each.
 
     /// The last node's cells: each node has as many as there are places, and the last node's are the last.
-    pub fn last_cells<'a>(&self, cells: &'a [Cell]) -> Places<'a, Cell>
+    pub(crate) fn last_cells<'a>(&self, cells: &'a [Cell]) -> Places<'a, Cell>
         requires { length cells.now ≡ self.now.places * length (nodes_of self.now.rule) }
         ensures { result.lent.now ≡ drop (length cells.now - self.now.places) cells.now }
     {
@@ -44,7 +44,7 @@ impl Arming {
     }
 
     /// The last node's cell at a position.
-    pub fn cell(&self, cells: &[Cell], position: u64) -> Cell
+    pub(crate) fn cell(&self, cells: &[Cell], position: u64) -> Cell
         requires { length cells.now ≡ self.now.places * length (nodes_of self.now.rule) }
         ensures { result ≡ cell_at cells.now self.now.places (last_node self.now.rule) position }
     {

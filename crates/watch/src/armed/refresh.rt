@@ -13,7 +13,7 @@ use scale::{Scale, TestScale};
 impl Arming {
     /// Evaluates the rule anew where the sample at position `accepted` can matter, and answers how many untaken positions are settled
     /// now and were not before. Ends stay once the wait is over, and samples do not matter any more once the span is over.
-    pub fn refresh<S: TestScale>(
+    pub(crate) fn refresh<S: TestScale>(
         &self,
         rows: &[SampleRow],
         cells: &mut [Cell],

@@ -4,7 +4,7 @@ use crate::places::Places;
 
 impl<'a, T: Copy> Places<'a, T> {
     /// These places.
-    pub fn over(lent: &'a [T]) -> Places<'a, T>
+    pub(crate) fn over(lent: &'a [T]) -> Places<'a, T>
         requires { 0 < length lent.now }
         ensures { result.lent.now ≡ lent.now }
     {
@@ -12,7 +12,7 @@ impl<'a, T: Copy> Places<'a, T> {
     }
 
     /// What lies there at a position.
-    pub fn at(&self, position: u64) -> T
+    pub(crate) fn at(&self, position: u64) -> T
         ensures { (d : T) → result ≡ slice_index_or self.now.lent.now (position % length self.now.lent.now) d }
     {
         self.lent[(position % self.lent.len() as u64) as usize]

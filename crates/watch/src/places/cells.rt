@@ -36,7 +36,7 @@ fn is_failing<S: Scale>(cell: Cell) -> bool
 // A search is given `low` and `high`, as its definition has them; a `Range` would be taken apart again in each contract.
 impl Places<'_, Cell> {
     /// How many of the positions from `low` on, and below `high`, are settled.
-    pub fn count_settled<S: Scale>(&self, low: u64, high: u64) -> u64
+    pub(crate) fn count_settled<S: Scale>(&self, low: u64, high: u64) -> u64
         ensures { result ≡ many (λ k. same_ends S.ops (cell_in self.now.lent.now (low + k))) (high - low) }
     {
         (low..high)
@@ -45,7 +45,7 @@ impl Places<'_, Cell> {
     }
 
     /// The lowest position from `low` on, and below `high`, whose high end does not pass.
-    pub fn first_failing<S: Scale>(&self, low: u64, high: u64) -> Option<u64>
+    pub(crate) fn first_failing<S: Scale>(&self, low: u64, high: u64) -> Option<u64>
         ensures { result ≡ lowest (λ p. fails S.ops (cell_in self.now.lent.now p)) low (high - low) }
     {
         (low..high).find(|&position| is_failing::<S>(self.at(position)))

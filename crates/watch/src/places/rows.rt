@@ -19,7 +19,7 @@ pub(crate) fn stamp_at(rows: &[SampleRow], position: u64) -> u64
 
 impl Places<'_, SampleRow> {
     /// The stamp at a position; one above the limit counts as the limit.
-    pub fn stamp(&self, position: u64) -> u64
+    pub(crate) fn stamp(&self, position: u64) -> u64
         ensures { result ≡ (row_at self.now.lent.now position).stamp }
     {
         self.at(position).stamp()
@@ -27,7 +27,7 @@ impl Places<'_, SampleRow> {
 
     /// The first position from `low` on, and below `high`, whose stamp and `by` more is after the stamp `moment`; `high` if there is
     /// none.
-    pub fn first_later(&self, low: u64, high: u64, moment: u64, by: u64) -> u64
+    pub(crate) fn first_later(&self, low: u64, high: u64, moment: u64, by: u64) -> u64
         requires order { low ≤ high }
         requires near { by ≤ largest_span }
         ensures { FirstLater self.now.lent.now low high moment by result }
