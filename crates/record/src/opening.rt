@@ -7,7 +7,6 @@ ghost use Rattle.record.specs.Opening.{Answered, Broken, Exactly, NoRule, NoSamp
 use crate::format::{NODE, SAMPLE, read_node, split_count};
 use refusal::{Misfit, Refusal};
 use rule::{NodeRow, Rule};
-use std::array;
 
 /// What an open record holds: how many samples, and the place of the first one.
 #[derive(Clone, Copy, PartialEq, Eq, Debug)]
@@ -73,7 +72,12 @@ fn read_rows(nodes: &[[u8; NODE]]) -> [NodeRow; Rule::MOST_NODES]
         low: 0,
         high: 0,
     };
-    array::from_fn(|i| nodes.get(i).map_or(none, read_node))
+    let mut rows = [none; Rule::MOST_NODES];
+    // The number of a node is asked for: it is its row's place. `array::from_fn` would go over all 32 places.
+    for (i, node) in nodes.iter().enumerate() {
+        rows[i] = read_node(node);
+    }
+    rows
 }
 
 /// The section of the samples, which begins at this place and is all the rest of a record.
