@@ -6,11 +6,12 @@ ghost use Rattle.rule.specs.Tables.{Sound, formula};
 use crate::horizon::Horizon;
 use crate::node::{Node, NodeRow};
 use refusal::{Misfit, Refusal};
+use std::fmt;
 
 /// A rule: 1 to 32 nodes, each of which fits its place, and a span of at most 4095 ticks. Its meaning is that of
 /// its last node. No rule can break these limits.
-// No `==`: a derived one would compare the places past the count too.
-#[derive(Clone, Copy, Debug)]
+// No `==`, and a `Debug` by hand: derived ones would compare and show the places past the count too.
+#[derive(Clone, Copy)]
 pub struct Rule {
     // An array with a count beside it, since a rule is `Copy` and no list of the kit is.
     nodes: [Node; Rule::MOST_NODES],
@@ -111,5 +112,16 @@ impl TryFrom<&[NodeRow]> for Rule {
 
     fn try_from(rows: &[NodeRow]) -> Result<Rule, Misfit> {
         Rule::from_rows(rows)
+    }
+}
+
+/// Its nodes in brackets, and no place past its count.
+impl fmt::Debug for Rule {
+    ghost use Rattle.rule.specs.Texts.{rule_text};
+
+    ghost debug_output = { rule_text };
+
+    fn fmt<W: fmt::Write>(&self, f: &mut fmt::Formatter<W>) -> fmt::Result {
+        fmt::Debug::fmt(&self.nodes(), f)
     }
 }
