@@ -1,6 +1,5 @@
 -- What the inner steps of draw and take promise. Assumes nothing.
-use Rattle.std.specs.Prelude.{◌≡◌, ℕ, ◌+◌, ◌-◌, ◌<◌, max, Bool, true, cond, nat_lt, List, length, Some, None, Option}
-use Rattle.refusal.specs.declared.Refusal.TheVariants.{Full}
+use Rattle.std.specs.Prelude.{◌≡◌, ℕ, ◌+◌, ◌-◌, ◌<◌, max, Bool, true, List, length, Option}
 use Rattle.scale.specs.Laws.{Ops}
 use Rattle.logic.specs.Formula.{wait, span}
 use Rattle.rule.specs.Made.{nodes_of}
@@ -12,7 +11,8 @@ use Rattle.evaluation.specs.Memory.{cell_at}
 use Rattle.evaluation.specs.Nodes.{Evaluated}
 use Rattle.evaluation.specs.declared.memory.Cell.{Cell}
 use Rattle.world.specs.Steps.{many}
-use Rattle.world.specs.Tests.{rule_formula, source_refuses, watch_refuses}
+use Rattle.world.specs.Tests.{call_refusal, rule_formula}
+use Rattle.world.specs.declared.call.Call.TheVariants.{Draw}
 use Rattle.watch.specs.Cells.{FirstLater, same_ends}
 use Rattle.world.specs.declared.refused.Refused.{Refused}
 use Rattle.watch.specs.Calls.{SameRule}
@@ -35,11 +35,23 @@ pub record Refreshed {V : Type 0} (ops : Ops V) (read : ℕ → ℕ → V) (rule
       ≡ settled_among ops rule (length rows) xs (max from taken) (accepted + 1 - max from taken)
       - settled_among ops rule (length rows) ys (max from taken) (accepted - max from taken)
 
--- why no sample comes into a watch, full or not, if none does
+-- why no sample comes into a watch, full or not, if none does: by the tests of a draw of which all others hold
 abbrev pub sample_refusal : Bool → Coming → Option Refused
 sample_refusal full coming =
-    cond full (Some (watch_refuses Full))
-    (cond (nat_lt 0 (length coming.samples)) None (Some (source_refuses coming)))
+    call_refusal Draw (record {
+      armed = true;
+      fits = true;
+      full = full;
+      coming = coming;
+      later = true;
+      seen = true;
+      held = true;
+      untaken = true;
+      settled = true;
+      tray_free = true;
+      tray_later = true;
+      tray_some = true;
+    })
 
 -- a sample with this row was taken in, and the rule evaluated anew
 pub record Accepting {V : Type 0} (ops : Ops V) (read : ℕ → ℕ → V) (x : Watch V) (arming : Arming) (strip strip' : Ring SampleRow) (cells cells' : List Cell) (row : SampleRow) (settled : ℕ) : Type 0 where
