@@ -53,11 +53,14 @@ fn refusals(rt: HostRuntime) -> Result<(), Fail> {
     for ((refusal, word), number) in REFUSALS.iter().zip(WORDS.lines()).zip(1..) {
         check_refusal(&rt, heap, *refusal, word, number, 0)?;
     }
+    check_refusal(&rt, heap, Ending::Dry.refusal(), "dry", 11, 0)?;
     check_refusal(&rt, heap, Refusal::from(Ending::Dry), "dry", 11, 0)?;
     for (number, place) in [(0, 0), (6, 63), (77, 12345), (u32::MAX, u64::MAX)] {
         let fault = Fault { number, place };
+        check_refusal(&rt, heap, Refusal::Fault(fault), "fault", number, place)?;
         check_refusal(&rt, heap, Refusal::from(fault), "fault", number, place)?;
         let ending = Ending::Fault(fault);
+        check_refusal(&rt, heap, ending.refusal(), "fault", number, place)?;
         check_refusal(&rt, heap, Refusal::from(ending), "fault", number, place)?;
     }
     Ok(())

@@ -140,12 +140,7 @@ fn check_answer(rt: &impl Abort, heap: Global, figures: &[u64], line: &str) -> R
         line
     );
     if let Ok(rule) = made {
-        assert_eq!(rt;
-            rule.span(),
-            rule.wait().saturating_add(rule.reach()),
-            "{}",
-            line
-        );
+        assert_eq!(rt; rule.span(), second.saturating_add(*third), "{}", line);
         check_nodes(rt, &rule, &rows, line);
     }
     Ok(())

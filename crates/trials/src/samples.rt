@@ -1,6 +1,6 @@
 // Samples, and their plain rows.
-use crate::helpers::{answer, each_case, sample_row};
-use sample::{Sample, SampleRow};
+use crate::helpers::{answer, each_case, sample_row, told};
+use sample::Sample;
 use scale::Code;
 use std::process::Abort;
 use std::test::Fail;
@@ -23,14 +23,6 @@ const FIGURES: &str = "
 1099511627777 4096 4096 4096 4096   6   1099511627775 4095 4095 4095 4095
 ";
 
-/// Stamp and codes, as the sample's calls tell them.
-fn told(sample: &Sample) -> SampleRow {
-    SampleRow {
-        stamp: sample.stamp(),
-        codes: sample.codes(),
-    }
-}
-
 fn check_sample(rt: &impl Abort, figures: &[u64], line: &str) -> Result<(), Fail> {
     let [stamp, a, b, c, d, number, expected @ ..] = figures else {
         return Err(Fail::new("too few numbers"));
@@ -39,13 +31,20 @@ fn check_sample(rt: &impl Abort, figures: &[u64], line: &str) -> Result<(), Fail
     let expected = sample_row(expected.try_into()?)?;
     let sample = Sample::from_row(row);
     let again = Sample::from_row(sample.row());
-    assert_eq!(rt; (told(&sample), again), (expected, sample), "{}", line);
-    let by_channel = [0, 1, 2, 3, 4, usize::MAX].map(|channel| sample.code(channel));
-    let [a, b, c, d] = expected.codes.map(|code| Code::new(code).ok());
+    assert_eq!(rt;
+        (told(sample), told(again)),
+        (expected, expected),
+        "{}",
+        line
+    );
+    let by_channel = [0, 1, 2, 3, 4, usize::MAX].map(|channel| again
+        .code(channel)
+        .map(Code::value));
+    let [a, b, c, d] = expected.codes.map(Some);
     assert_eq!(rt; by_channel, [a, b, c, d, None, None], "{}", line);
     assert_eq!(rt;
-        Sample::new(row.stamp, row.codes),
-        answer(*number, sample)?,
+        Sample::new(row.stamp, row.codes).map(told),
+        answer(*number, expected)?,
         "{}",
         line
     );

@@ -29,15 +29,17 @@ const READINGS: [(u16, u16, i64, i64, bool); 8] = [
 #[test]
 fn codes_and_readings(rt: HostRuntime) {
     for (number, made, nearest) in CODES {
-        let told = Code::try_from(number)
-            .map(u16::from)
-            .map_err(Refusal::number);
+        let told = Code::new(number).map(Code::value).map_err(Refusal::number);
         assert_eq!(rt;
             (told, Code::nearest(number).value()),
             (made, nearest),
             "{}",
             number
         );
+        let converted = Code::try_from(number)
+            .map(u16::from)
+            .map_err(Refusal::number);
+        assert_eq!(rt; converted, made, "{} by the library's traits", number);
     }
     for (code, level, verdict, margin, passes) in READINGS {
         let code = Code::nearest(code);
@@ -45,9 +47,14 @@ fn codes_and_readings(rt: HostRuntime) {
         let one = PassFail::read(code, level);
         let other = Margin::read(code, level);
         assert_eq!(rt;
-            (one.kept(), i64::from(i32::from(other)), one.passes()),
+            (one.kept(), i64::from(other.value()), one.passes()),
             (verdict, margin, passes),
             "of a reading"
+        );
+        assert_eq!(rt;
+            i64::from(i32::from(other)),
+            margin,
+            "of a margin as a number"
         );
         assert_eq!(rt;
             (one.kept(), other.kept(), other.passes()),
