@@ -17,7 +17,8 @@ impl<'a, R: Stamped> Strip<'a, R> {
             return None;
         }
         let place = self.place(number);
-        Some(self.rows()[place])
+        let rows: &[R] = self.rows;
+        Some(rows[place])
     }
 
     /// Takes a record in. Refused, and nothing changes, if there is no free place or else if the stamp is not later than the last one taken.
