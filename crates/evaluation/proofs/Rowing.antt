@@ -17,6 +17,10 @@ use Rattle.sample.specs.declared.row.SampleRow.{SampleRow}
 use Rattle.evaluation.proofs.Places.{place_apart, place_earlier, place_below}
 use Rattle.evaluation.proofs.Same.{node_same, node_tree}
 
+-- a cell in other words
+pub cell_same : {V : Type 0} (o : Ops V) {c : Cell} {low high low' high' : V} → c ≡ kept_ends o (record { low = low; high = high }) → low ≡ low' → high ≡ high' → c ≡ kept_ends o (record { low = low'; high = high' })
+cell_same o e p q = e ∙ ap₂ (λ x y. kept_ends o (record { low = x; high = y })) p q
+
 -- the nodes of a list whose last is taken apart
 module _ (ns others : List Node) (last : Node) (apart : ns ≡ others ++ last ∷ []) where
   pub other_is : (m : ℕ) (n : Node) → m < length others → n ≡ get_or others m n → n ≡ get_or ns m True
@@ -41,6 +45,9 @@ module _ (P : Type 0) (C m first from : ℕ) (cell : ℕ → Cell) (ys xs : List
     rest = λ i n. get_or-set_other xs (place C m (first + j)) i v no_cell (n j a (omega arith)) ∙ w.rest i (λ k p q. n k p (omega arith));
   }
 
+  pub written_at : (j s : ℕ) (v : Cell) → Written P C m first from cell ys xs j → from ≤ j → j < from + C → s ≡ place C m (first + j) → s < length xs → (P → v ≡ cell j) → Written P C m first from cell ys (set xs s v) (j + 1)
+  written_at j s v w a b e l h = subst (λ n. Written P C m first from cell ys (set xs n v) (j + 1)) (sym e) (written_more j v w a b (omega arith) h)
+
   pub written_all : (j n : ℕ) → j ≡ n → Written P C m first from cell ys xs j → Written P C m first from cell ys xs n
   written_all j n e w = subst (Written P C m first from cell ys xs) e w
 
@@ -63,6 +70,13 @@ written_ring P C m first from cell ys earlier own j p v len w a b at l e =
     (written_more P C m first from cell ys (earlier ++ own) j v w a b (omega arith) e)
 
 module _ {V : Type 0} (o : Ops V) (read : ℕ → ℕ → V) (rows : List SampleRow) (first count : ℕ) (some : 0 < length rows) where
+  -- in the midst of a row a node's cell is what it was at the row's start
+  pub cell_same_now : (m from : ℕ) (n : Node) (ys xs : List Cell) (j : ℕ) (cell : ℕ → Cell) (k : ℕ) → Fits m n → k < count → Written (Climbs (window rows first count)) (length rows) m first from cell ys xs j → node_cell o read rows first count xs n k ≡ node_cell o read rows first count ys n k
+  cell_same_now m from n ys xs j cell k f l w =
+      ap (kept_ends o) (node_same o (window rows first count) read (ends_in o xs (length rows) first) (ends_in o ys (length rows) first) m k l
+      (λ a i p q. ap (λ (c : Cell). record { low = o.restored c.low; high = o.restored c.high }) (w.rest (place (length rows) a (first + i)) (λ k' _ _. place_earlier (length rows) a m (first + i) (first + k') some p)))
+      n f)
+
   -- a node's ends rest on the cells of the nodes before it
   pub ends_before :
       (m : ℕ) (n : Node) (earlier own ys : List Cell) (k : ℕ) →

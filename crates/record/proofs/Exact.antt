@@ -3,16 +3,18 @@ use Rattle.std.proofs.Common.{◌≡◌, ℕ, ◌+◌, ◌*◌, ◌<◌, ◌≤�
 use Rattle.std.specs.Option.{MatchOption}
 use Rattle.std.specs.Result.{result_err}
 use Rattle.std.proofs.lemmas.List.{length-map}
+use Rattle.refusal.specs.Table.{number_of}
 use Rattle.refusal.specs.declared.Misfit.{Misfit}
 use Rattle.rule.specs.Limits.{most_nodes}
 use Rattle.rule.specs.Made.{nodes_of, Refused}
+use Rattle.rule.specs.Made as made-why
 use Rattle.rule.specs.Rows.{row_of}
 use Rattle.rule.specs.declared.node.NodeRow.{NodeRow}
 use Rattle.rule.specs.declared.rule.Rule.{Rule}
 use Rattle.rule.proofs.Exact as made
 use Rattle.rule.proofs.Sole as made-sole
 use Rattle.record.specs.Format.{each, node_bytes, nodes_then, samples_then}
-use Rattle.record.specs.Opening.{rows_of, after_nodes, Holds, NoSamples, Broken, Answered, Exactly, Opens, Told, no_count, wrong_count, nodes_cut, no_rule, no_samples}
+use Rattle.record.specs.Opening.{rows_of, after_nodes, Holds, NoSamples, Broken, Answered, Exactly, Opens, Told, no_count, wrong_count, nodes_cut, no_rule, no_samples, no_sample_count, wrong_sample_count, samples_cut, more_bytes}
 use Rattle.record.specs.declared.opening.Opened.{Opened}
 use Rattle.record.proofs.Sections.{length-nodes}
 
@@ -101,3 +103,22 @@ told read bytes (Some m) n h k reads = inr (m, h, reads m k)
 pub told_opens : (read : Misfit → ℕ) (bytes : List ℕ) (n : ℕ) → Told read bytes n → Opens bytes → n ≡ 0
 told_opens read bytes n (inl h) o = h.1
 told_opens read bytes n (inr (m, h, _)) o = absurd (never bytes o.0 o.1 o.2 m h)
+
+-- no refusal of bytes has the number 0
+rows_numbered : (rows : List NodeRow) (m : Misfit) → Refused rows m → 0 < number_of m.refusal
+rows_numbered rows m (made-why.wrong_count e _) = rw e (omega arith)
+rows_numbered rows m (made-why.no_node _ e _ _ _ _) = rw e (omega arith)
+rows_numbered rows m (made-why.too_far _ e _ _ _ _ _) = rw e (omega arith)
+
+samples_numbered : (place : ℕ) (bytes : List ℕ) (m : Misfit) → NoSamples place bytes m → 0 < number_of m.refusal
+samples_numbered place bytes m (no_sample_count e _) = rw e (omega arith)
+samples_numbered place bytes m (wrong_sample_count _ _ e _ _) = rw e (omega arith)
+samples_numbered place bytes m (samples_cut _ _ e _ _ _) = rw e (omega arith)
+samples_numbered place bytes m (more_bytes _ _ e _ _ _) = rw e (omega arith)
+
+pub numbered : (bytes : List ℕ) (m : Misfit) → Broken bytes m → 0 < number_of m.refusal
+numbered bytes m (no_count e _) = rw e (omega arith)
+numbered bytes m (wrong_count _ _ e _ _) = rw e (omega arith)
+numbered bytes m (nodes_cut _ _ e _ _ _ _) = rw e (omega arith)
+numbered bytes m (no_rule rows why _ e _ _ _ r) = rw e (rows_numbered rows why r)
+numbered bytes m (no_samples rule rest _ r) = samples_numbered (after_nodes rule) rest m r

@@ -1,7 +1,7 @@
 -- The samples of a record, read place after place. Assumes nothing.
-use Rattle.std.proofs.Common.{◌≡◌, ℕ, zero, suc, ◌+◌, ◌-◌, ◌*◌, ◌/◌, ◌%◌, ◌≤◌, min, Bool, true, false, cond, ltb, List, [], ◌∷◌, ◌++◌, length, get_or, take, drop, Ok, Err, Result, sym, refl, ap, ◌∙◌, subst, inl, inr, append_assoc, zero-le, arith, length-drop, length-take}
+use Rattle.std.proofs.Common.{◌≡◌, ℕ, zero, suc, ◌+◌, ◌-◌, ◌*◌, ◌/◌, ◌%◌, ◌<◌, ◌≤◌, min, Bool, true, false, cond, ltb, List, [], ◌∷◌, ◌++◌, length, get_or, take, drop, Ok, Err, Result, sym, refl, ap, ◌∙◌, subst, inl, inr, append_assoc, zero-le, arith, length-drop, length-take}
 use borrow.Author.Tests.{both_ways}
-use Rattle.std.proofs.lemmas.Bool.{and_from, and_parts, lt-ltb, le-leb, ltb-true, ltb-false, leb-true}
+use Rattle.std.proofs.lemmas.Bool.{and_from, and_parts, lt-ltb, le-ltb, le-leb, ltb-true, ltb-false, leb-true}
 use Rattle.std.proofs.lemmas.List.{drop_all}
 use Rattle.std.specs.Result.{IsErrAnd, MatchResult}
 use Rattle.refusal.specs.declared.Refusal.{Refusal}
@@ -51,6 +51,20 @@ pub row_failed : (row : SampleRow) → (Fits row → ⊥) → row_fits row ≡ f
 row_failed row h = grind (arith, row_told)
 
 -- what comes from a place with a whole sample left
+-- what is to come where fewer than sixteen bytes are left
+module _ (bs : List ℕ) (at : ℕ) where
+  pub comes_dry : length bs ≤ at → coming_from bs at ≡ record { samples = []; ending = Dry }
+  comes_dry h =
+      let none : (length bs - at) / 16 ≡ 0 = omega arith in
+      let past : ltb at (length bs) ≡ false = le-ltb _ _ h in
+      ap (λ n. coming_counted bs n at) none ∙ ap (λ b. record { samples = []; ending = cond b (fault Cut at) Dry }) past
+
+  pub comes_cut : at < length bs → length bs - at < 16 → coming_from bs at ≡ record { samples = []; ending = fault Cut at }
+  comes_cut h l =
+      let none : (length bs - at) / 16 ≡ 0 = omega arith in
+      let more : ltb at (length bs) ≡ true = lt-ltb _ _ h in
+      ap (λ n. coming_counted bs n at) none ∙ ap (λ b. record { samples = []; ending = cond b (fault Cut at) Dry }) more
+
 module _ (bs : List ℕ) (at : ℕ) where
   module _ (row : SampleRow) (h : at + 16 ≤ length bs) (e : sample_bytes row ≡ take 16 (drop at bs)) (four : length row.codes ≡ 4) where
     row_is : row_of (take 16 (drop at bs)) ≡ row
@@ -81,7 +95,7 @@ module _ (bs : List ℕ) (at : ℕ) where
         (ap first broken ∙ ap Err (sym (told why ending k)), ap rest broken ∙ sym broken)
 
 -- bytes, sixteen by sixteen
-row_spelled : (bs : List ℕ) → Bytes bs → length bs ≡ 16 → sample_bytes (row_of bs) ≡ bs
+pub row_spelled : (bs : List ℕ) → Bytes bs → length bs ≡ 16 → sample_bytes (row_of bs) ≡ bs
 row_spelled bs small e =
     sample_written bs small e _ _ _ _ _ (ap number (elements_take bs 0 8 (omega arith))) (ap number (elements_take bs 8 2 (omega arith))) (ap number (elements_take bs 10 2 (omega arith))) (ap number (elements_take bs 12 2 (omega arith))) (ap number (elements_take bs 14 2 (omega arith)))
 

@@ -1,20 +1,31 @@
 -- The sections of a record, cut out of its bytes. Assumes nothing.
-use Rattle.std.proofs.Common.{◌≡◌, ℕ, zero, suc, ◌+◌, ◌-◌, ◌*◌, ◌/◌, ◌<◌, ◌≤◌, List, [], ◌∷◌, ◌++◌, length, get_or, take, drop, Ok, Err, Result, sym, refl, ap, ◌∙◌, subst, ap₂, ⊎_elim, arith, length-append, length-drop, take-append-drop, length-take}
-use denote.Param.Members.{Mut, Called}
-use Rattle.std.specs.Array.{IsFromFnResultFrom}
+use Rattle.std.proofs.Common.{◌≡◌, ℕ, zero, suc, ◌+◌, ◌-◌, ◌*◌, ◌/◌, ◌<◌, ◌≤◌, ◌≢◌, List, [], ◌∷◌, ◌++◌, length, get_or, set, take, drop, Ok, Err, Result, sym, refl, ap, ◌∙◌, subst, ap₂, ⊎_elim, append-nil, append_assoc, arith, length-append, length-drop, take-append-drop, length-take}
 use Rattle.std.specs.List.{IsSplitAt}
 use Rattle.std.specs.Result.{IsErrAnd, MatchResult}
 use Rattle.std.specs.Simd.{first_chunks}
-use Rattle.std.proofs.lemmas.Bool.{cases_lt}
-use Rattle.std.proofs.lemmas.List.{nil_from_length}
+use Rattle.std.proofs.lemmas.Bool.{cases_eq}
+use Rattle.std.proofs.lemmas.List.{get_or-set_same, get_or-set_other, nil_from_length}
 use Rattle.refusal.specs.declared.Misfit.{Misfit}
-use Rattle.rule.specs.Made.{Made}
+use Rattle.rule.specs.Limits.{most_nodes}
+use Rattle.rule.specs.Made.{Made, Refused}
+use Rattle.rule.specs.Made as made-why
 use Rattle.rule.specs.declared.node.NodeRow.{NodeRow}
 use Rattle.rule.specs.declared.rule.Rule.{Rule}
 use Rattle.record.specs.Format.{each, itself, node_bytes, nodes_then, samples_then}
 use Rattle.record.specs.Opening.{rows_of, after_nodes, Holds, NoRule, Samples}
 use Rattle.record.specs.Reading.{number}
 use Rattle.record.proofs.Bytes.{Bytes, bytes_take, elements, read_back}
+
+-- a list made of parts, by one part more
+pub each_push : {X : Type 0} (f : X → List ℕ) (xs : List X) (x : X) → each f (xs ++ (x ∷ [])) ≡ each f xs ++ f x
+each_push f [] x = append-nil (f x)
+each_push f (y ∷ xs) x = ap (λ r. f y ++ r) (each_push f xs x) ∙ sym (append_assoc (f y) (each f xs) (f x))
+
+-- a refusal of at most 32 rows speaks of a place below 32
+pub place_small : (rows : List NodeRow) (m : Misfit) → length rows ≤ most_nodes → Refused rows m → m.place < most_nodes
+place_small rows m h (made-why.wrong_count e _) = let p = ap (λ (x : Misfit). x.place) e in omega arith
+place_small rows m h (made-why.no_node i e _ l _ _) = let p = ap (λ (x : Misfit). x.place) e in omega arith
+place_small rows m h (made-why.too_far ns e _ _ _ _ _) = let p = ap (λ (x : Misfit). x.place) e in omega arith
 
 pub length-nodes : (rows : List NodeRow) → length (each node_bytes rows) ≡ 7 * length rows
 length-nodes [] = refl
@@ -26,16 +37,13 @@ rows_read rows [] few read = refl
 rows_read [] (node ∷ nodes) few read = absurd (let z : ⊥ = omega arith in z)
 rows_read (row ∷ rows) (node ∷ nodes) few read = ap₂ ◌++◌ (read 0 row (omega arith)) (rows_read rows nodes (omega arith) (λ i e k. read (suc i) e (omega arith)))
 
--- what is made place by place, as each call from a kept state tells
-module _ {F : Type 0} {g : Mut F (ℕ × Unit {0}) NodeRow} (nodes : List (List ℕ)) (rows : List NodeRow) (Kept : F → Type 0) (call : (f q : F) (i : ℕ) (row : NodeRow) → i < length nodes → Kept f → Called g f (i, tt) row q → (node_bytes row ≡ get_or nodes i []) × Kept q) where
-  pub made_at : (f : F) (i n k : ℕ) (e : NodeRow) → i ≤ k → k < i + n → k < length nodes → Kept f → IsFromFnResultFrom g f rows i n → node_bytes (get_or rows k e) ≡ get_or nodes k []
-  made_at f i zero k e from to below kept made = absurd (let z : ⊥ = omega arith in z)
-  made_at f i (suc n) k e from to below kept (q, row, at, called, more) =
-      let here = call f q i row (omega arith) kept called in
-      ⊎_elim
-      (λ (later : i < k). made_at q (i + 1) n k e (omega arith) (omega arith) below here.1 more)
-      (λ (this : k ≤ i). let same : k ≡ i = omega arith in ap (λ j. node_bytes (get_or rows j e)) same ∙ ap node_bytes (at.1 e) ∙ here.0 ∙ ap (λ j. get_or nodes j []) (sym same))
-      (cases_lt i k)
+-- one row more that is read of its node
+pub read_more : (rows : List NodeRow) (nodes : List (List ℕ)) (i : ℕ) (x : NodeRow) → i < length rows → ((k : ℕ) (e : NodeRow) → k < i → node_bytes (get_or rows k e) ≡ get_or nodes k []) → node_bytes x ≡ get_or nodes i [] → (k : ℕ) (e : NodeRow) → k < i + 1 → node_bytes (get_or (set rows i x) k e) ≡ get_or nodes k []
+read_more rows nodes i x h read here k e l =
+    ⊎_elim
+    (λ (s : k ≡ i). ap (λ n. node_bytes (get_or (set rows i x) n e)) s ∙ ap node_bytes (get_or-set_same rows i x e h) ∙ here ∙ ap (λ n. get_or nodes n []) (sym s))
+    (λ (n : k ≢ i). ap node_bytes (get_or-set_other rows i k x e n) ∙ read k e (omega arith))
+    (cases_eq k i)
 
 -- seven by seven, bytes are the same
 chunks_whole : (k : ℕ) (bs : List ℕ) → length bs ≡ 7 * k → each itself (first_chunks 7 k bs) ≡ bs

@@ -1,14 +1,26 @@
 -- What the horizon of a node rests on. Assumes nothing.
-use Rattle.std.proofs.Common.{◌≡◌, ℕ, ◌+◌, ◌*◌, ◌<◌, ◌≢◌, List, [], ◌∷◌, ◌++◌, length, get_or, take, set, sym, ap, ◌∙◌, arith, get_or-set_other, get_or-set_same, below_more}
+use Rattle.std.proofs.Common.{◌≡◌, ℕ, ◌+◌, ◌-◌, ◌*◌, ◌<◌, ◌≢◌, List, [], ◌∷◌, ◌++◌, length, get_or, take, set, sym, refl, ap, ◌∙◌, arith, take_all, get_or-set_other, get_or-set_same, below_more}
 use Rattle.std.proofs.lemmas.List.{get_or-take, take_more_set}
 use Rattle.std.proofs.lemmas.List.Sums.{fold_more}
 use Rattle.rule.specs.Limits.{largest_bound}
 use Rattle.rule.specs.Rows.{Fits}
 use Rattle.rule.specs.Tables.{tabled, step, Sound}
-use Rattle.rule.specs.Horizons.{none, Within, node_horizon}
+use Rattle.rule.specs.Horizons.{none, Within, node_horizon, last_horizon}
 use Rattle.rule.specs.declared.node.Node.{Node}
 use Rattle.rule.specs.declared.node.Node.TheVariants.{True, Level, Not, Or, And, Next, Yesterday, Until, Since}
 use Rattle.rule.specs.declared.horizon.Horizon.{Horizon}
+
+-- it rests on the horizons before it
+pub horizon_local : (t : List Horizon) (k : ℕ) (n : Node) → Fits k n → node_horizon (take k t) n ≡ node_horizon t n
+horizon_local t k True h = refl
+horizon_local t k (Level c l) h = refl
+horizon_local t k (Not a) h = let p : a < k = omega arith in rw get_or-take
+horizon_local t k (Or a b) h = let p : a < k = omega arith in let q : b < k = omega arith in simp get_or-take
+horizon_local t k (And a b) h = let p : a < k = omega arith in let q : b < k = omega arith in simp get_or-take
+horizon_local t k (Next a l u) h = let p : a < k = omega arith in simp get_or-take
+horizon_local t k (Yesterday a l u) h = let p : a < k = omega arith in simp get_or-take
+horizon_local t k (Until a b l u) h = let p : a < k = omega arith in let q : b < k = omega arith in simp get_or-take
+horizon_local t k (Since a b l u) h = let p : a < k = omega arith in let q : b < k = omega arith in simp get_or-take
 
 pub horizon_bound : (m : ℕ) (t : List Horizon) (k : ℕ) (n : Node) → Fits k n → ((j : ℕ) → j < k → Within m (get_or t j none)) → Within (m + largest_bound) (node_horizon t n)
 horizon_bound m t k True h b = (omega arith, omega arith)
@@ -34,3 +46,9 @@ module _ (t : List Horizon) (ns : List Node) (i : ℕ) (s : Horizon) (sound : So
       below_more _ _
       (λ j l. let ne : j ≢ i = omega arith in let b = inv j l in rw get_or-set_other (omega arith, omega arith))
       (rw (get_or-set_same, e) (let b = horizon_bound (largest_bound * i) (take i t) i (get_or ns i True) (sound i h) (λ j l. rw get_or-take (inv j l)) in (omega arith, omega arith)))
+
+-- the last entry of the table is that of the last node
+pub table_all : (t : List Horizon) (ns : List Node) (i : ℕ) → 0 < length ns → i ≡ length ns → take i t ≡ tabled node_horizon (take i ns) → get_or t (length ns - 1) none ≡ last_horizon ns
+table_all t ns i h e inv =
+    sym (get_or-take i t (length ns - 1) none (omega arith))
+    ∙ ap (λ u. get_or u (length ns - 1) none) (inv ∙ ap (tabled node_horizon) (take_all i ns (omega arith)))

@@ -1,9 +1,9 @@
 -- The records that a ring keeps, one by one, and what each call makes of them. Assumes nothing.
-use Rattle.std.proofs.Common.{◌≡◌, ℕ, ◌+◌, ◌-◌, ◌%◌, ◌<◌, ◌≤◌, [], ◌∷◌, ◌++◌, length, get_or, drop, sym, ap, ◌∙◌, ap₂, min, drop-cons, ⊎_elim, mod-lt, arith}
+use Rattle.std.proofs.Common.{◌≡◌, ℕ, ◌+◌, ◌-◌, ◌%◌, ◌<◌, ◌≤◌, List, [], ◌∷◌, ◌++◌, length, get_or, drop, sym, refl, ap, ◌∙◌, ap₂, min, drop-cons, ⊎_elim, mod-lt, arith}
 use native.Mathlib.Nat.{mod-add-mod}
 use Rattle.std.proofs.lemmas.List.{get_or_append_left, get_or-drop, get_or_push, get_or-set_other, get_or-set_same, get_or-take, length-append, length-drop, length_push, length-set, length-take, same_lists}
 use Rattle.std.proofs.lemmas.Bool.{cases_lt}
-use Rattle.strip.specs.Ring.{Ring, contents, oldest, place_of, with_newest, with_row, without_oldest}
+use Rattle.strip.specs.Ring.{Ring, contents, oldest, place_of, unused, with_newest, with_row, without_oldest}
 use Rattle.strip.proofs.Places.{apart, get_or-round}
 
 module _ {R : Type 0} (s : Ring R) (fits : s.kept ≤ length s.rows) where
@@ -24,6 +24,10 @@ module _ {R : Type 0} (s : Ring R) (fits : s.kept ≤ length s.rows) where
       let n = length s.rows in
       let l : place_of s (oldest s) < n = mod-lt (oldest s) (omega arith) in
       get_or-take s.kept _ k d h ∙ get_or-drop (place_of s (oldest s)) (s.rows ++ s.rows) k d ∙ get_or-round s.rows (place_of s (oldest s) + k) d (omega arith) ∙ ap (λ p. get_or s.rows p d) (mod-add-mod (oldest s) n k)
+
+-- an unused ring keeps nothing
+pub contents_unused : {R : Type 0} (rows : List R) → contents (unused rows) ≡ []
+contents_unused rows = refl
 
 -- a ring that keeps no record
 pub contents_none : {R : Type 0} (s : Ring R) → s.kept ≡ 0 → contents s ≡ []

@@ -1,5 +1,5 @@
 -- How a call keeps its promise: refused, by its tests on memory alone; accepted, by what it did. Assumes nothing.
-use Rattle.std.proofs.Common.{◌≡◌, ℕ, length, Some, None, sym, refl, ap, ◌∙◌, subst, length-set}
+use Rattle.std.proofs.Common.{◌≡◌, ℕ, length, Some, None, Option, sym, refl, ap, ◌∙◌, subst, length-set}
 use Rattle.scale.specs.Laws.{Ops, Laws}
 use Rattle.world.specs.Steps.{answered, changed, outcome, step}
 use Rattle.world.specs.Tests.{call_refusal}
@@ -50,6 +50,13 @@ module _ {V : Type 0} {ops : Ops V} (laws : Laws ops) (read : ℕ → ℕ → V)
     lengths = ap sizes same;
     standing = follows (λ w s. subst (λ o. (a ≡ (outcome ops read (sizes m) c w o).1) × Stands ops read (outcome ops read (sizes m) c w o).0 m') (sym e) (says, subst (Stands ops read w) (sym same) s));
   }
+
+  pub promised : ((why : Refused) → call_refusal c (facts_of ops c m) ≡ Some why → (a ≡ answer.Refused why) × (m' ≡ m)) → (call_refusal c (facts_of ops c m) ≡ None → Accepted ops c m m' a) → (call_refusal c (facts_of ops c m) ≡ None → (w : World V) → Stands ops read w m → (a ≡ answered ops read c w) × Stands ops read (changed ops read (sizes m) c w) m') → Promise ops read c m m' a
+  promised refused does stands = by (call_refusal c (facts_of ops c m)) refl
+    where
+      by : (o : Option Refused) → call_refusal c (facts_of ops c m) ≡ o → Promise ops read c m m' a
+      by None e = accepted_promise e (does e) (stands e)
+      by (Some why) e = same_promise why e (refused why e).0 (refused why e).1
 
 module _ {V : Type 0} {ops : Ops V} (laws : Laws ops) (read : ℕ → ℕ → V) where
   -- a refused call leaves memory as it is

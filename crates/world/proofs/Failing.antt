@@ -1,5 +1,5 @@
 -- What the search for the lowest failing position finds. Assumes nothing.
-use Rattle.std.proofs.Common.{◌≡◌, ℕ, zero, suc, ◌+◌, ◌<◌, ◌≤◌, true, false, Some, None, inl, inr, arith}
+use Rattle.std.proofs.Common.{◌≡◌, ℕ, zero, suc, ◌+◌, ◌<◌, ◌≤◌, true, false, Some, None, refl, inl, inr, arith}
 use Rattle.std.proofs.lemmas.Bool.{cond_both, cases_eq}
 use Rattle.logic.specs.Formula.{Formula}
 use Rattle.logic.specs.Meaning.{fails_at, lowest_failing}
@@ -41,3 +41,22 @@ module _ {V : Type 0} (ops : Ops V) (read : ℕ → ℕ → V) (σ : Trace) (A :
       (λ f g. absurd cc)
       (λ f g. elim (cases_eq k j) [ inl x ↦ rw x f | inr x ↦ lowest_none (suc j) c g k (omega arith) (omega arith) ])
       e
+
+  -- and the other way round
+  pub is_lowest : (j c q : ℕ) → Lowest j c q → lowest_failing ops read σ A j c ≡ Some q
+  unfolding lowest_failing
+  is_lowest j zero q l = absurd (omega arith)
+  is_lowest j (suc c) q l = elim (cases_eq j q) [
+    | inl x ↦ (let f : fails_at ops read σ A j ≡ true = rw x l.fails in rw (f, x) refl)
+    | inr x ↦ rw (l.earlier j (omega arith) (omega arith)) (is_lowest (suc j) c q (record {
+      fails = l.fails;
+      from = omega arith;
+      below = omega arith;
+      earlier = λ k a b. l.earlier k (omega arith) b;
+    }))
+  ]
+
+  pub none_lowest : (j c : ℕ) → ((k : ℕ) → j ≤ k → k < j + c → fails_at ops read σ A k ≡ false) → lowest_failing ops read σ A j c ≡ None
+  unfolding lowest_failing
+  none_lowest j zero h = refl
+  none_lowest j (suc c) h = rw (h j (omega arith) (omega arith)) (none_lowest (suc j) c (λ k a b. h k (omega arith) (omega arith)))

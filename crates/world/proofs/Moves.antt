@@ -1,17 +1,17 @@
 -- How a call comes to its outcome, and the five ways in which one can change things. Assumes nothing.
-use Rattle.std.proofs.Common.{◌≡◌, ℕ, zero, suc, not, ◌&&◌, ◌||◌, ◌∙◌, ◌<◌, Bool, true, false, eqb, ltb, ◌⊎◌, List, [], ◌∷◌, length, get_or, is_some, Some, None, Option, sym, refl, subst, inl, inr}
+use Rattle.std.proofs.Common.{◌≡◌, ℕ, zero, suc, not, ◌&&◌, ◌||◌, ◌∙◌, ◌<◌, Bool, true, false, eqb, ltb, ◌⊎◌, List, [], ◌∷◌, length, get_or, is_some, Some, None, Option, sym, refl, ap, subst, inl, inr}
 use Rattle.std.proofs.lemmas.Bool.{or_parts, and_parts, eq-eqb, cond_both, true≢false, ltb-true, eqb-false, not-true}
 use Rattle.std.specs.List.{AllByRecursion}
 use Rattle.logic.specs.Trace.{blank}
 use Rattle.refusal.specs.Table.{number_of}
 use Rattle.refusal.specs.declared.Refusal.{Refusal}
 use Rattle.rule.specs.declared.rule.Rule.{Rule}
-use Rattle.sample.specs.Coming.{rest}
+use Rattle.sample.specs.Coming.{Coming, rest}
 use Rattle.sample.specs.declared.row.SampleRow.{SampleRow}
 use Rattle.scale.specs.Laws.{Ops}
 use Rattle.world.specs.Law.{draws, takes, counted, pulls, if_drew}
 use Rattle.world.specs.Steps.{rule_in, places_in, accepted, held_count, next_sample, sample_stamps, later, settled, reading_in, oldest, facts_in, answered, changed, outcome, step}
-use Rattle.world.specs.Tests.{watch_refuses, tests, first_refusal, call_refusal, arm_fits}
+use Rattle.world.specs.Tests.{watch_refuses, source_refuses, tests, first_refusal, call_refusal, arm_fits}
 use Rattle.world.specs.World.{Sizes, Armed, World}
 use Rattle.world.specs.declared.answer.Answer.{Answer}
 use Rattle.world.specs.declared.answer.Answer.TheVariants as answer
@@ -49,6 +49,19 @@ hold (t ∷ ts) e =
 pub not_refused : (ts : List (Bool × Refused)) → Hold ts → first_refusal ts ≡ None
 not_refused [] h = refl
 not_refused (t ∷ ts) h = rw h.0 (not_refused ts h.1)
+
+-- no test has this refusal, so none fails with it
+pub none_such : (ts : List (Bool × Refused)) (why : Refused) → AllByRecursion (λ t. t.1 ≡ why → ⊥) ts → Fails ts why → ⊥
+none_such [] why h f = f
+none_such (t ∷ ts) why h (inl f) = h.0 f.1
+none_such (t ∷ ts) why h (inr f) = none_such ts why h.1 f.1
+
+-- refusals of the watch differ by their numbers, and a source's are not the watch's
+pub unlike : (a b : Refusal) → eqb (number_of a) (number_of b) ≡ false → watch_refuses a ≡ watch_refuses b → ⊥
+unlike a b d e = eqb-false _ _ d (ap (λ x. number_of x.refusal) e)
+
+pub not_source : (coming : Coming) (why : Refusal) → source_refuses coming ≡ watch_refuses why → ⊥
+not_source coming why e = let f = ap (λ x. x.by) e in cc
 
 -- whether it is the watch that refuses, with this refusal
 abbrev pub own : Refusal → Refused → Bool

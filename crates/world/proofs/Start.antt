@@ -7,7 +7,7 @@ use Rattle.world.proofs.Holding.{held_none}
 use Rattle.world.proofs.Keep.{Kept, kept}
 use Rattle.world.proofs.Moves.{Move, arms, draws_one, moves}
 use Rattle.world.specs.Law.{world}
-use Rattle.world.specs.Steps.{next_sample, step, after}
+use Rattle.world.specs.Steps.{next_sample, step, after, answers}
 use Rattle.world.specs.World.{Sizes, Armed, World, unused}
 use Rattle.world.specs.declared.answer.Answer.{Answer}
 use Rattle.world.specs.declared.call.Call.{Call}
@@ -22,6 +22,11 @@ module _ {V : Type 0} (ops : Ops V) (read : ℕ → ℕ → V) (s : Sizes) where
   unfolding after
   after_join [] ds w = refl
   after_join (c ∷ cs) ds w = after_join cs ds (step ops read s c w).0
+
+  pub answers_join : (cs ds : List Call) (w : World V) → answers ops read s (cs ++ ds) w ≡ answers ops read s cs w ++ answers ops read s ds (after ops read s cs w)
+  unfolding after answers
+  answers_join [] ds w = refl
+  answers_join (c ∷ cs) ds w = ap (λ xs. (step ops read s c w).1 ∷ xs) (answers_join cs ds (step ops read s c w).0)
 
   grown_move : (b : Armed) (w : World V) {w' : World V} {a : Answer V} → w.armed ≡ Some b → Move ops read s w w' a → Grown b w w'
   grown_move b w e (arms rule f g) = absurd cc
