@@ -1,5 +1,5 @@
 -- Numbers and their bytes. Assumes nothing.
-use Rattle.std.proofs.Common.{◌≡◌, ℕ, zero, suc, ◌+◌, ◌*◌, ◌/◌, ◌%◌, ◌<◌, ◌≤◌, List, [], ◌∷◌, ◌++◌, length, get_or, take, drop, sym, refl, ap, ◌∙◌, subst, ap₂, arith, take-append-drop, drop-cons}
+use Rattle.std.proofs.Common.{◌≡◌, ℕ, zero, suc, ◌+◌, ◌*◌, ◌/◌, ◌%◌, ◌<◌, ◌≤◌, List, [], ◌∷◌, ◌++◌, length, get_or, take, drop, sym, refl, ap, ◌∙◌, subst, ap₂, arith, length-drop, take-append-drop, drop-cons}
 use Rattle.std.proofs.lemmas.List.{drop-drop, take_all}
 use Rattle.record.specs.Format.{low_first, sample_bytes}
 use Rattle.record.specs.Reading.{number}
@@ -35,8 +35,8 @@ pub elements_take : (bs : List ℕ) (i n : ℕ) → i + n ≤ length bs → take
 elements_take bs i zero h = refl
 elements_take bs i (suc n) h = ap (take (suc n)) (drop-cons bs i 0 (omega arith)) ∙ ap (λ r. get_or bs i 0 ∷ r) (elements_take bs (suc i) n (omega arith))
 
-pub elements_are : (bs : List ℕ) (n : ℕ) → length bs ≡ n → bs ≡ elements bs 0 n
-elements_are bs n e = sym (take_all n bs (omega arith)) ∙ elements_take bs 0 n (omega arith)
+pub elements_are : (bs : List ℕ) (i n : ℕ) → length bs ≡ i + n → drop i bs ≡ elements bs i n
+elements_are bs i n e = sym (take_all n (drop i bs) (simp length-drop (omega arith))) ∙ elements_take bs i n (omega arith)
 
 pub written : (w : ℕ) (bs : List ℕ) → length bs ≡ suc w → Bytes bs → low_first w (number bs) ≡ bs
 written w [] e h = let z : suc w ≡ 0 = sym e in absurd (let k : ⊥ = omega arith in k)
@@ -60,10 +60,10 @@ module _ (bs : List ℕ) (small : Bytes bs) where
       ap (low_first w) e ∙ written w (elements bs i (suc w)) (length-elements bs i (suc w)) part_small
 
   pub read_back : (w r : ℕ) → length bs ≡ suc w → r ≡ number (elements bs 0 (suc w)) → low_first w r ≡ bs
-  read_back w r e s = part w 0 r (omega arith) s ∙ sym (elements_are bs (suc w) e)
+  read_back w r e s = part w 0 r (omega arith) s ∙ sym (elements_are bs 0 (suc w) (omega arith))
 
   -- and so are five numbers that are read of a sample's sixteen bytes
   pub sample_written : length bs ≡ 16 → (s a b c d : ℕ) → s ≡ number (elements bs 0 8) → a ≡ number (elements bs 8 2) → b ≡ number (elements bs 10 2) → c ≡ number (elements bs 12 2) → d ≡ number (elements bs 14 2) → sample_bytes (record { stamp = s; codes = a ∷ b ∷ c ∷ d ∷ [] }) ≡ bs
   sample_written e s a b c d p q r t u =
       ap₂ ◌++◌ (part 7 0 s (omega arith) p) (ap₂ ◌++◌ (part 1 8 a (omega arith) q) (ap₂ ◌++◌ (part 1 10 b (omega arith) r) (ap₂ ◌++◌ (part 1 12 c (omega arith) t) (ap₂ ◌++◌ (part 1 14 d (omega arith) u) refl))))
-      ∙ sym (elements_are bs 16 e)
+      ∙ sym (elements_are bs 0 16 e)

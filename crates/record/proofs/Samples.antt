@@ -24,7 +24,7 @@ number_written (suc w) n = ap (λ m. n % 256 + 256 * m) (number_written w (n / 2
 
 pub row_written : (s : ℕ) (cs : List ℕ) → length cs ≡ 4 → row_of (eight s ++ each two cs) ≡ record { stamp = s; codes = cs }
 row_written s cs e =
-    subst (λ cs. row_of (eight s ++ each two cs) ≡ record { stamp = s; codes = cs }) (sym (elements_are cs 4 e))
+    subst (λ cs. row_of (eight s ++ each two cs) ≡ record { stamp = s; codes = cs }) (sym (elements_are cs 0 4 e))
     (λ i. record {
       stamp = number_written 7 s i;
       codes = number_written 1 (get_or cs 0 0) i ∷ number_written 1 (get_or cs 1 0) i ∷ number_written 1 (get_or cs 2 0) i ∷ number_written 1 (get_or cs 3 0) i ∷ [];
@@ -50,7 +50,6 @@ row_tested row h = and_from _ _ (lt-ltb _ _ h.early) (codes_tested row.codes h.w
 pub row_failed : (row : SampleRow) → (Fits row → ⊥) → row_fits row ≡ false
 row_failed row h = grind (arith, row_told)
 
--- what comes from a place with a whole sample left
 -- what is to come where fewer than sixteen bytes are left
 module _ (bs : List ℕ) (at : ℕ) where
   pub comes_dry : length bs ≤ at → coming_from bs at ≡ record { samples = []; ending = Dry }
@@ -65,6 +64,7 @@ module _ (bs : List ℕ) (at : ℕ) where
       let more : ltb at (length bs) ≡ true = lt-ltb _ _ h in
       ap (λ n. coming_counted bs n at) none ∙ ap (λ b. record { samples = []; ending = cond b (fault Cut at) Dry }) more
 
+-- what comes from a place with a whole sample left
 module _ (bs : List ℕ) (at : ℕ) where
   module _ (row : SampleRow) (h : at + 16 ≤ length bs) (e : sample_bytes row ≡ take 16 (drop at bs)) (four : length row.codes ≡ 4) where
     row_is : row_of (take 16 (drop at bs)) ≡ row

@@ -18,7 +18,7 @@ length_codes [] = refl
 length_codes (c ∷ cs) = let more = length_codes cs in omega arith
 
 row_begins : (s : ℕ) (cs : List ℕ) → length cs ≡ 4 → (xs : List ℕ) → row_of (take 16 ((eight s ++ each two cs) ++ xs)) ≡ record { stamp = s; codes = cs }
-row_begins s cs e xs = subst (λ cs. row_of (take 16 ((eight s ++ each two cs) ++ xs)) ≡ row_of (eight s ++ each two cs)) (sym (elements_are cs 4 e)) refl ∙ row_written s cs e
+row_begins s cs e xs = subst (λ cs. row_of (take 16 ((eight s ++ each two cs) ++ xs)) ≡ row_of (eight s ++ each two cs)) (sym (elements_are cs 0 4 e)) refl ∙ row_written s cs e
 
 known : (r s : SampleRow) (xs ys : List ℕ) → length r.codes ≡ 4 → length s.codes ≡ 4 → sample_bytes r ++ xs ≡ sample_bytes s ++ ys → r ≡ s
 known r s xs ys e f p = sym (row_begins r.stamp r.codes e xs) ∙ ap (λ t. row_of (take 16 t)) p ∙ row_begins s.stamp s.codes f ys

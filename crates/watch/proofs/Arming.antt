@@ -25,7 +25,7 @@ module _ {V : Type 0} (ops : Ops V) (read : ℕ → ℕ → V) where
   pub arm_stands : (rule : Rule) (m m' : Memory V) (a : Answer V) → call_refusal (Arm rule) (facts_of ops (Arm rule) m) ≡ None → Arms rule m m' a → (w : World V) → Stands ops read w m → (a ≡ answered ops read (Arm rule) w) × Stands ops read (changed ops read (sizes m) (Arm rule) w) m'
   arm_stands rule m m' a e does w s =
       let t = arm_passed ops m rule e in
-      let none : accepted w ≡ 0 = sym s.strip_taken ∙ t in
+      let none : accepted w ≡ 0 = sym s.strip_taken ∙ t.1 in
       let w' = changed ops read (sizes m) (Arm rule) w in
       let count : held_count w ≡ held_count w' = no_count w none ∙ sym (no_count w' none) in (
         does.says,
